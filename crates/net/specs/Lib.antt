@@ -1,0 +1,6 @@
+pub mod Net
+pub mod Table
+pub mod Held
+pub mod Ruled
+pub mod Answer
+pub mod Rows

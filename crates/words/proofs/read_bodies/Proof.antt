@@ -1,0 +1,105 @@
+use Prim.Native.Nat.{ℕ, zero, suc, _+_, _-_, _*_, _≤_, _<_}
+use mathlib.Core.Path.{_≡_, refl, sym, _∙_}
+use native.Mathlib.Nat.{sub-zero}
+use native.Mathlib.Omega.{arith}
+use borrow.Author.Needs.{needs}
+use borrow.Author.Tests.{eq-eqb, ne-eqb}
+use Rattle.words.specs.declared.Bodies.{Bodies}
+use Rattle.words.specs.declared.Bodies.the-variants.{Gap, End}
+use Rattle.words.specs.Words.{word, bodiesFrom, bodiesOf}
+use Rattle.words.proofs.Words.{bodies-more, bodies-gap, bodies-end}
+use Rattle.words.proofs.read_bodies.Statement.{statement}
+use Rattle.words.proofs.read_bodies.Tie as tie
+use Rattle.words.proofs.read_bodies.Reads as reads
+use Rattle.words.proofs.read_bodies.Lts as lts
+use Rattle.words.proofs.word_at.Reads as word-at-reads
+
+abbrev Inv-loop : tie.InvT-loop
+Inv-loop s n end₀ i₀ end i = (i ≤ n) × (bodiesFrom s (8 * i) end (n - i) ≡ bodiesOf n s)
+
+abbrev μ-loop : tie.MeasureT-loop
+μ-loop s n end₀ i₀ end i = n - i
+
+-- src/lib.rt:57:20
+mul-end : tie.Need-mul-end Inv-loop μ-loop
+mul-end c = search needs
+
+-- src/lib.rt:59:5
+loop-holds : tie.Need-loop-holds Inv-loop μ-loop
+unfolding bodiesOf
+loop-holds c = (omega arith, rw sub-zero)
+
+-- src/lib.rt:60:18
+mul-at : tie.Need-mul-at Inv-loop μ-loop
+mul-at c = search needs
+
+-- src/lib.rt:61:13
+word-at-requires : tie.Need-word-at-requires Inv-loop μ-loop
+word-at-requires c κs = search needs
+
+-- src/lib.rt:61:13
+cast-if1 : tie.Need-cast-if1 Inv-loop μ-loop
+cast-if1 c = search needs
+
+-- src/lib.rt:62:13
+returns : tie.Need-returns Inv-loop μ-loop
+returns c =
+    let l = c .before .before .before .loop in
+    bodies-gap _ _ _ _ (c .before .before .loop-test .taken) (λ e. c .if1 .taken (c .before .word-at .ensures ∙ e)) ∙ l .inv .1
+
+-- src/lib.rt:64:27
+add-word-at : tie.Need-add-word-at Inv-loop μ-loop
+add-word-at c = search needs
+
+-- src/lib.rt:64:16
+word-at-requires-2 : tie.Need-word-at-requires-2 Inv-loop μ-loop
+word-at-requires-2 c κs = search needs
+
+-- src/lib.rt:64:16
+cast-end : tie.Need-cast-end Inv-loop μ-loop
+cast-end c = search needs
+
+-- src/lib.rt:64:9
+add-end : tie.Need-add-end Inv-loop μ-loop
+add-end c = omega (arith, c .before .if1 .left, c .before .before .word-at .ok)
+
+-- src/lib.rt:65:9
+add-i : tie.Need-add-i Inv-loop μ-loop
+add-i c = search needs
+
+-- src/lib.rt:59:5
+loop-less : tie.Need-loop-less Inv-loop μ-loop
+loop-less c = search needs
+
+-- src/lib.rt:59:5
+loop-again : tie.Need-loop-again Inv-loop μ-loop
+loop-again c = (
+  omega arith,
+  let l = c .before .before .before .before .loop in
+      rw (c .word-at2 .ensures) (bodies-more _ _ _ _ (c .before .before .before .loop-test .taken) (sym (c .before .before .word-at .ensures) ∙ c .before .if1 .left) ∙ l .inv .1),
+)
+
+-- src/lib.rt:53:1
+returns-2 : tie.Need-returns-2 Inv-loop μ-loop
+returns-2 c = bodies-end _ _ _ _ (c .loop-test .left) ∙ c .before .loop .inv .1
+
+pub read-bodies-spec : {M : Type 1} → statement M
+read-bodies-spec =
+    tie.close
+    (tie.spec
+    Inv-loop
+    μ-loop
+    mul-end
+    loop-holds
+    mul-at
+    word-at-requires
+    cast-if1
+    returns
+    add-word-at
+    word-at-requires-2
+    cast-end
+    add-end
+    add-i
+    loop-less
+    loop-again
+    returns-2)
