@@ -1,0 +1,10 @@
+pub mod Tally
+pub mod Accepted
+pub mod Simulate
+pub mod Agree
+pub mod Keep
+pub mod Permit
+pub mod Interleave
+pub mod Encode
+pub mod Rows
+pub mod Theorems

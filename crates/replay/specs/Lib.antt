@@ -1,0 +1,9 @@
+pub mod Plain
+pub mod Counts
+pub mod Permitted
+pub mod State
+pub mod Sound
+pub mod Record
+pub mod Claims
+pub mod Rows
+pub mod Calls
