@@ -2,14 +2,11 @@ pub mod Bodies
 pub mod BodyWords
 pub mod HeldLaws
 pub mod IndexLaws
-pub mod Indexed
-pub mod LoadLaws
 pub mod Marks
 pub mod Parts
 pub mod Promise
 pub mod Room
 pub mod RowsHold
-pub mod RuledWords
 pub mod Scan
 pub mod Search
 pub mod Sets

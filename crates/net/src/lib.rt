@@ -1,29 +1,11 @@
-// Route tables: a table file's bytes are loaded into lent words, or refused with the first number from 1 to 9 that applies.
-// Above `words`. The crates above use what `Held` and `Loaded` promise, and never the bytes or the words' places.
+// The net: what it is, what loading promises of it, the answers of loading, and the look-ups of a loaded net in lent words.
+// Above `words`. The crates above use what `Held` and `Loaded` promise, and never a table's bytes or the words' places.
 
-use crate::fill::copy_all;
-use crate::fill::copy_body;
-use crate::fill::put_sizes;
-use crate::index::index_arcs;
-use crate::refuse::refuse_arcs;
-use crate::refuse::refuse_front;
-use crate::shape::refuse_shape;
 ghost use mathlib.Core.Path.{_≡_};
 ghost use Prim.Native.Nat.{_≤_};
-ghost use Rattle.words.specs.Refusals.{first};
-ghost use Rattle.net.specs.Table.{shapeTests, loadCode};
-ghost use Rattle.net.specs.Held.{frontOver, keptWords, afterLoad};
-ghost use Rattle.net.specs.Ruled.{Ruled};
 ghost use Rattle.net.specs.Answer.{codeOf};
 
-mod fill;
-mod index;
-mod kinds;
 pub mod look;
-mod reach;
-mod refuse;
-mod rules;
-mod shape;
 
 // The answer to loading a table. `codeOf` gives document 01's number.
 pub enum LoadAnswer {
@@ -49,7 +31,7 @@ pub enum LoadAnswer {
 }
 
 // The answer whose number is n.
-fn answer(n: u32) -> LoadAnswer
+pub fn answer(n: u32) -> LoadAnswer
     requires { ⌜ n ≤ 9 ⌝ }
     ensures { λ r. ⌜ codeOf r ≡ n ⌝ }
 {
@@ -65,68 +47,4 @@ fn answer(n: u32) -> LoadAnswer
         8 => LoadAnswer::TwoOfKind,
         _ => LoadAnswer::Unreached,
     }
-}
-
-// The sizes and the first three bodies of a table to which none of 1 to 3 applies.
-fn copy_front(s: &[u8], w: &mut [u32; 1684])
-    requires { ⌜ first (shapeTests (now s)) ≡ 0 ⌝ }
-    ensures { λ _. ⌜ now (w .exit) ≡ frontOver (now (s .entry)) (now (w .entry)) ⌝ }
-{
-    put_sizes(
-        w,
-        words::word_at(s, 4) / 8,
-        words::word_at(s, 12) / 4,
-        words::word_at(s, 20) / 4,
-        words::word_at(s, 28) / 8,
-    );
-    copy_body(s, 0, w, 4);
-    copy_body(s, 1, w, 20);
-    copy_body(s, 2, w, 84);
-}
-
-// The words w, to which none of 3 to 9 applies, and their look-up words.
-fn keep_words(w: &[u32; 1684], t: &mut [u32; 1684])
-    requires { ⌜ Ruled (now w) ⌝ }
-    ensures { λ _. ⌜ now (t .exit) ≡ keptWords (now (w .entry)) (now (t .entry)) ⌝ }
-{
-    copy_all(w, t);
-    index_arcs(w, t);
-}
-
-// A table to which none of 1 to 3 applies: 4 to 9, or 0 where it is loaded.
-fn load_bodies(s: &[u8], t: &mut [u32; 1684]) -> u32
-    requires { ⌜ first (shapeTests (now s)) ≡ 0 ⌝ }
-    ensures { λ r. ⌜ (r ≡ loadCode (now (s .entry))) × (now (t .exit) ≡ afterLoad (now (s .entry)) (now (t .entry))) ⌝ }
-{
-    let mut w = [0u32; 1684];
-    copy_front(s, &mut w);
-    let front = refuse_front(&w);
-    if front != 0 {
-        return front;
-    }
-    copy_body(s, 3, &mut w, 148);
-    let arcs = refuse_arcs(&w);
-    if arcs != 0 {
-        return arcs;
-    }
-    keep_words(&w, t);
-    0
-}
-
-fn load_code(s: &[u8], t: &mut [u32; 1684]) -> u32
-    ensures { λ r. ⌜ (r ≡ loadCode (now (s .entry))) × (now (t .exit) ≡ afterLoad (now (s .entry)) (now (t .entry))) ⌝ }
-{
-    let r = refuse_shape(s);
-    if r != 0 {
-        return r;
-    }
-    load_bodies(s, t)
-}
-
-// Loads a table file into lent words. Where it is refused the words stay as they are.
-pub fn load(s: &[u8], t: &mut [u32; 1684]) -> LoadAnswer
-    ensures { λ r. ⌜ (codeOf r ≡ loadCode (now (s .entry))) × (now (t .exit) ≡ afterLoad (now (s .entry)) (now (t .entry))) ⌝ }
-{
-    let r = load_code(s, t);
-    answer(r)
 }

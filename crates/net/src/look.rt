@@ -1,6 +1,6 @@
 // Looking up a loaded net, each in one step. What is said of the words is said of the net that they hold.
 
-use crate::rules::wide;
+use words::wide;
 ghost use mathlib.Core.Path.{_≡_};
 ghost use mathlib.Core.Bool.{true};
 ghost use Prim.Native.Nat.{_<_};

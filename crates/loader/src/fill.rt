@@ -1,0 +1,57 @@
+// A table's bodies, copied from bytes into words.
+
+use words::wide;
+ghost use mathlib.Core.Path.{_≡_};
+ghost use mathlib.Core.List.{List, [], _∷_};
+ghost use Prim.Native.Nat.{ℕ, _+_, _*_, _/_, _≤_};
+ghost use lib.ListN.{length, take, drop};
+ghost use lib.Seq.{sets};
+ghost use Rattle.words.specs.Words.{word, wordsOf, bodyOf};
+
+// The n numbers of the bytes from number `from` on become the words from word `base` on.
+fn copy_words(s: &[u8], from: usize, n: usize, w: &mut [u32; 1684], base: usize)
+    requires { ⌜ from + n ≤ length (wordsOf (now s)) ⌝ }
+    requires { ⌜ base + n ≤ 1684 ⌝ }
+    ensures { λ _. ⌜ now (w .exit) ≡ sets (now (w .entry)) base (take n (drop from (wordsOf (now (s .entry))))) ⌝ }
+{
+    let mut i = 0;
+    while i < n {
+        w[base + i] = words::get_word(s, from + i);
+        i += 1;
+    }
+}
+
+// Body i becomes the words from word `base` on.
+pub fn copy_body(s: &[u8], i: usize, w: &mut [u32; 1684], base: usize)
+    requires { ⌜ (i ≤ 3) × (32 ≤ length (now s)) ⌝ }
+    requires { ⌜ word (now s) (8 * i) + word (now s) (8 * i + 4) ≤ length (now s) ⌝ }
+    requires { ⌜ base + word (now s) (8 * i + 4) / 4 ≤ 1684 ⌝ }
+    ensures { λ _. ⌜ now (w .exit) ≡ sets (now (w .entry)) base (bodyOf (now (s .entry)) i) ⌝ }
+{
+    let at = 8 * i;
+    let from = wide(words::word_at(s, at)) / 4;
+    let n = wide(words::word_at(s, at + 4)) / 4;
+    copy_words(s, from, n, w, base);
+}
+
+// The first four words.
+pub fn put_sizes(w: &mut [u32; 1684], kinds: u32, places: u32, acts: u32, arcs: u32)
+    ensures { λ _. ⌜ now (w .exit) ≡ sets (now (w .entry)) 0 (kinds ∷ places ∷ acts ∷ arcs ∷ []) ⌝ }
+{
+    w[0] = kinds;
+    w[1] = places;
+    w[2] = acts;
+    w[3] = arcs;
+}
+
+// All words of w become those of t.
+pub fn copy_all(w: &[u32; 1684], t: &mut [u32; 1684])
+    requires { ⌜ length (now w) ≡ 1684 ⌝ }
+    ensures { λ _. ⌜ now (t .exit) ≡ sets (now (t .entry)) 0 (now (w .entry)) ⌝ }
+{
+    let mut i = 0;
+    while i < 1684 {
+        t[i] = w[i];
+        i += 1;
+    }
+}

@@ -1,0 +1,132 @@
+// The tests 4 to 7 on a table's bodies in words.
+
+use words::wide;
+ghost use mathlib.Core.Path.{_≡_};
+ghost use Prim.Native.Nat.{ℕ, _≤_, _<_};
+ghost use lib.ListN.{length, getD};
+ghost use lib.Dec.{leb};
+ghost use Rattle.words.specs.Lists.{any, anyTo, pairUp, total};
+ghost use Rattle.net.specs.Table.{badEnds, badCount, badArc};
+ghost use Rattle.net.specs.Held.{netIn, placesIn, countsIn, arcsIn, Sized};
+
+// 4: a place of unknown kind.
+pub fn bad_place(w: &[u32; 1684]) -> bool
+    requires { ⌜ Sized (now w) ⌝ }
+    ensures { λ r. ⌜ r ≡ any (λ (k : ℕ). leb (netIn (now (w .entry)) .kinds) k) (placesIn (now (w .entry))) ⌝ }
+{
+    let kinds = w[0];
+    let n = wide(w[1]);
+    let mut i = 0;
+    while i < n {
+        if kinds <= w[20 + i] {
+            return true;
+        }
+        i += 1;
+    }
+    false
+}
+
+// The source and sink of kind k, places s and e, break test 5.
+fn bad_pair(w: &[u32; 1684], k: usize, s: usize, e: usize) -> bool
+    requires { ⌜ Sized (now w) ⌝ }
+    requires { ⌜ (k < netIn (now w) .kinds) × (s ≡ netIn (now w) .source k) × (e ≡ netIn (now w) .sink k) ⌝ }
+    ensures { λ r. ⌜ r ≡ badEnds (netIn (now (w .entry))) k ⌝ }
+{
+    let n = wide(w[1]);
+    if n <= s {
+        return true;
+    }
+    if n <= e {
+        return true;
+    }
+    if wide(w[20 + s]) != k {
+        return true;
+    }
+    if wide(w[20 + e]) != k {
+        return true;
+    }
+    s == e
+}
+
+// 5: a kind whose source or sink is unknown, of another kind, or the same place.
+pub fn bad_ends(w: &[u32; 1684]) -> bool
+    requires { ⌜ Sized (now w) ⌝ }
+    ensures { λ r. ⌜ r ≡ anyTo (netIn (now (w .entry)) .kinds) (badEnds (netIn (now (w .entry)))) ⌝ }
+{
+    let n = wide(w[0]);
+    let mut k = 0;
+    while k < n {
+        if bad_pair(w, k, wide(w[4 + 2 * k]), wide(w[5 + 2 * k])) {
+            return true;
+        }
+        k += 1;
+    }
+    false
+}
+
+// 6: an activity with no arcs or over 8.
+pub fn bad_counts(w: &[u32; 1684]) -> bool
+    requires { ⌜ Sized (now w) ⌝ }
+    ensures { λ r. ⌜ r ≡ any badCount (countsIn (now (w .entry))) ⌝ }
+{
+    let n = wide(w[2]);
+    let mut i = 0;
+    while i < n {
+        if w[84 + i] == 0 {
+            return true;
+        }
+        if 8 < w[84 + i] {
+            return true;
+        }
+        i += 1;
+    }
+    false
+}
+
+// 6: how many arcs the activities claim, none of them over 8.
+pub fn sum_counts(w: &[u32; 1684]) -> usize
+    requires { ⌜ Sized (now w) ⌝ }
+    requires { ⌜ ((i : ℕ) → i < length (countsIn (now w)) → getD (countsIn (now w)) i 0 ≤ 8) ⌝ }
+    ensures { λ r. ⌜ r ≡ total (λ (n : ℕ). n) (countsIn (now (w .entry))) ⌝ }
+{
+    let n = wide(w[2]);
+    let mut sum = 0;
+    let mut i = 0;
+    while i < n {
+        sum += wide(w[84 + i]);
+        i += 1;
+    }
+    sum
+}
+
+// The arc from place p to place q breaks test 7.
+fn bad_arc(w: &[u32; 1684], p: usize, q: usize) -> bool
+    requires { ⌜ Sized (now w) ⌝ }
+    ensures { λ r. ⌜ r ≡ badArc (netIn (now (w .entry))) (p, q) ⌝ }
+{
+    let n = wide(w[1]);
+    if n <= p {
+        return true;
+    }
+    if n <= q {
+        return true;
+    }
+    w[20 + p] != w[20 + q]
+}
+
+// 7: an arc with an unknown place, or with places of two kinds.
+pub fn bad_arcs(w: &[u32; 1684]) -> bool
+    requires { ⌜ Sized (now w) ⌝ }
+    requires { ⌜ getD (now w) 3 0 ≤ 512 ⌝ }
+    ensures { λ r. ⌜ r ≡ any (badArc (netIn (now (w .entry)))) (pairUp (arcsIn (now (w .entry)))) ⌝ }
+{
+    let n = wide(w[3]);
+    let mut i = 0;
+    while i < n {
+        if bad_arc(w, wide(w[148 + 2 * i]), wide(w[149 + 2 * i])) {
+            return true;
+        }
+        i += 1;
+    }
+    false
+}
