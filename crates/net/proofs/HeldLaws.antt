@@ -1,23 +1,21 @@
 -- Words that hold a loaded net: the net, the sizes, and the look-up words. Assumes nothing.
-use Prim.Native.Nat.{ℕ, _+_, _*_, _/_, _%_, _≤_, _<_}
+use Prim.Native.Nat.{ℕ, _+_, _*_, _/_, _<_}
 use mathlib.Core.Bool.{true, false}
-use mathlib.Core.Logic.{inl, inr}
 use mathlib.Core.Path.{_≡_, refl, ap, sym, subst, _∙_}
-use mathlib.Core.List.{List, [], _∷_}
+use mathlib.Core.List.{List, []}
 use native.Mathlib.Omega.{arith}
-use lib.ListN.{length, getD, take, drop, replicate, length-replicate}
-use lib.Seq.{sets, length-sets}
+use lib.ListN.{length, getD}
+use lib.Seq.{sets}
 use Rattle.words.specs.Lists.{pick, All, pairUp, parts, twice}
 use Rattle.words.specs.Words.{word, bodyOf}
-use Rattle.words.proofs.Lists.{zeros-at, All-of, All-to, is-eq}
-use Rattle.words.proofs.Sums.{total-le, total-const}
+use Rattle.words.proofs.Lists.{All-of, All-to, is-eq}
 use Rattle.net.specs.Net.{Net, Arc, Loaded, GoodArc, takes, inputOf, outputOf, kindsOf}
-use Rattle.net.specs.Table.{netFrom, netOf, loadCode}
-use Rattle.net.specs.Held.{endsIn, placesIn, countsIn, arcsIn, netIn, pack, indexRows, bodyWords, loadedWords, Held, Sized}
-use Rattle.net.proofs.Views.{length-pairs, counts-length, count-at}
+use Rattle.net.specs.Table.{netOf, loadCode}
+use Rattle.net.specs.Held.{countsIn, arcsIn, netIn, pack, bodyWords, loadedWords, Held, Sized}
+use Rattle.net.proofs.Views.{counts-length, count-at}
 use Rattle.net.proofs.Parts.{sum, length-parts, part-length}
-use Rattle.net.proofs.Promise.{passed, taken-shape, promise, counts-good}
-use Rattle.net.proofs.Sets.{view-sets, view-same, word-same, word-apart, sets-all}
+use Rattle.net.proofs.Promise.{passed, taken-shape, promise}
+use Rattle.net.proofs.Sets.{sets-all}
 use Rattle.net.proofs.IndexLaws.{rows-at, arc-has}
 use Rattle.net.proofs.BodyWords.{FitFront, FitArcs, Holds, body-words, no-words, indexed, counts-in, arcs-in, net-in, sized}
 use Rattle.net.proofs.Room.{fit-front, fit-arcs}

@@ -1,5 +1,5 @@
 -- Searches, by what is left of them: for a number that stands twice, along the parts of a list, below a number. Assumes nothing.
-use Prim.Native.Nat.{ℕ, zero, suc, _+_, _-_, _≤_, _<_}
+use Prim.Native.Nat.{ℕ, zero, suc, _+_, _≤_, _<_}
 use mathlib.Core.Bool.{Bool, true, false}
 use mathlib.Core.Path.{_≡_, refl, ap, sym, _∙_}
 use mathlib.Core.List.{List, [], _∷_}
@@ -10,7 +10,7 @@ use lib.ListN.{length, getD, set, take, drop, replicate, length-set, length-repl
 use lib.Seq.{drop-cons, drop-drop, getD-set-same, getD-set-other}
 use lib.Dec.{eqb}
 use borrow.Author.Tests.{eq-eqb, ne-eqb}
-use Rattle.words.specs.Lists.{pick, any, All, has, twice, total, parts, upto}
+use Rattle.words.specs.Lists.{pick, any, All, has, twice, total, parts}
 use Rattle.words.proofs.Lists.{All-to, any-false, All-of}
 
 -- a number that is seen, or stands twice in the list
@@ -90,17 +90,3 @@ module _ {A : Type 0} (f : List A → Bool) (cs : List ℕ) (xs : List A) (a fro
 
 pub left-turn : (cs : List ℕ) (a : ℕ) → a < length cs → total (λ (n : ℕ). n) (drop a cs) ≡ getD cs a 0 + total (λ (n : ℕ). n) (drop (a + 1) cs)
 left-turn cs a h = rw (add-one, drop-cons cs a 0 h)
-
--- the numbers from k on, below n
-module _ (n : ℕ) (f : ℕ → Bool) (k : ℕ) where
-  upto-cons : k < n → upto (n - k) k ≡ k ∷ upto (n - (k + 1)) (k + 1)
-  upto-cons h = let e : n - k ≡ suc (n - (k + 1)) = omega arith in ap (λ (j : ℕ). upto j k) e ∙ ap (λ (i : ℕ). k ∷ upto (n - (k + 1)) i) (sym (add-one k))
-
-  pub to-turn : k < n → f k ≡ false → any f (upto (n - k) k) ≡ any f (upto (n - (k + 1)) (k + 1))
-  to-turn h e = rw (upto-cons h, e)
-
-  pub to-found : k < n → f k ≡ true → any f (upto (n - k) k) ≡ true
-  to-found h e = rw (upto-cons h, e)
-
-  pub to-end : n ≤ k → any f (upto (n - k) k) ≡ false
-  to-end h = let e : n - k ≡ 0 = omega arith in ap (λ (j : ℕ). any f (upto j k)) e

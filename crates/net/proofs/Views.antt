@@ -1,12 +1,12 @@
 -- What stands where in words that hold a table's bodies. Assumes nothing.
-use Prim.Native.Nat.{ℕ, zero, suc, _+_, _*_, _/_, _≤_, _<_, min}
-use mathlib.Core.Path.{_≡_, refl, ap, ap₂, subst₂, sym, _∙_}
+use Prim.Native.Nat.{ℕ, zero, suc, _+_, _*_, _/_, _≤_, _<_}
+use mathlib.Core.Path.{_≡_, refl, ap, ap₂, subst₂, _∙_}
 use mathlib.Core.List.{List, [], _∷_}
 use native.Mathlib.Omega.{arith}
 use lib.ListN.{length, getD, take, drop, length-take, length-drop}
 use lib.Seq.{getD-take, getD-drop}
 use Rattle.words.specs.Lists.{pairUp}
-use Rattle.net.specs.Net.{Net, Arc}
+use Rattle.net.specs.Net.{Arc}
 use Rattle.net.specs.Held.{endsIn, placesIn, countsIn, arcsIn, netIn, Sized}
 
 -- pairs of a list of numbers

@@ -1,9 +1,9 @@
 -- What the tests of arcs may rely on: words to whose bodies none of 3 to 7 applies.
-use Prim.Native.Nat.{ℕ, zero, suc, _≤_, _<_}
+use Prim.Native.Nat.{ℕ, zero, suc, _≤_}
 use mathlib.Core.Bool.{Bool, false, not}
 use mathlib.Core.Path.{_≡_}
 use mathlib.Core.List.{List, [], _∷_}
-use lib.ListN.{length, getD, set}
+use lib.ListN.{getD, set}
 use Rattle.words.specs.Lists.{any, anyTo, pairUp, total}
 use Rattle.net.specs.Net.{Net}
 use Rattle.net.specs.Table.{badEnds, badCount, badArc}

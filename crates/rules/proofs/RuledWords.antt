@@ -1,50 +1,28 @@
 -- What words to whose bodies none of 3 to 7 applies hold, by index. Assumes nothing.
 use Prim.Native.Nat.{ℕ, _+_, _*_, _≤_, _<_}
-use mathlib.Core.Bool.{Bool, false, not}
 use mathlib.Core.Path.{_≡_, ap, ap₂, sym, _∙_, subst}
-use mathlib.Core.List.{List, [], _∷_}
+use mathlib.Core.List.{List}
 use native.Mathlib.Omega.{arith}
 use lib.ListN.{length, getD, take, drop, replicate, length-take, length-drop, length-map}
 use lib.Seq.{getD-take, getD-drop}
 use borrow.Author.Tests.{leb-false}
-use Rattle.words.specs.Lists.{any, All, pairUp}
-use Rattle.words.proofs.Lists.{any-none, anyTo-none, All-at, All-of, map-at, is-eq}
-use Rattle.net.specs.Net.{Net, Arc, GoodArc, kindsOf}
-use Rattle.net.specs.Table.{badEnds, badArc, passes, marked}
+use Rattle.words.specs.Lists.{All, pairUp}
+use Rattle.words.proofs.Lists.{any-none, All-at, All-of, map-at}
+use Rattle.net.specs.Net.{Arc, GoodArc, kindsOf}
+use Rattle.net.specs.Table.{passes, marked}
 use Rattle.net.specs.Held.{netIn, placesIn, arcsIn}
 use Rattle.net.specs.Ruled.{Ruled, sourceMarks}
 use Rattle.net.proofs.Views.{kinds-is, places-length, places-is, place-at, kind-at, source-at, sink-at, arcs-length, arc-at}
 use Rattle.net.proofs.Marks.{joint-is}
+use Rattle.net.proofs.Promise.{Ends, ends-good, arcs-good}
 use lib.Dec.{leb, eqb}
-
-all-false : (ts : List Bool) → any (λ (t : Bool). t) ts ≡ false → All (λ (t : Bool). t ≡ false) ts
-all-false ts e = any-none (λ (t : Bool). t) (λ (t : Bool). t ≡ false) (λ t h. h) ts e
-
--- the ends of kind k
-pub record GoodEnds (N : Net) (k : ℕ) : Type 0 where
-  pub source-in : N .source k < N .places
-  pub sink-in : N .sink k < N .places
-  pub source-of : N .kindOf (N .source k) ≡ k
-  pub sink-of : N .kindOf (N .sink k) ≡ k
 
 module _ (w : List ℕ) (R : Ruled w) where
   pub good-arcs : All (GoodArc (netIn w)) (pairUp (arcsIn w))
-  good-arcs = any-none (badArc (netIn w)) (GoodArc (netIn w)) one-good (pairUp (arcsIn w)) (R .arcs)
-    where
-      one-good : (x : Arc) → badArc (netIn w) x ≡ false → GoodArc (netIn w) x
-      one-good x e = let N : Net = netIn w in
-          let a = all-false (leb (N .places) (x .0) ∷ leb (N .places) (x .1) ∷ not (eqb (N .kindOf (x .0)) (N .kindOf (x .1))) ∷ []) e in
-          record { inp = leb-false _ _ (a .0); out = leb-false _ _ (a .1 .0); same = sym (is-eq _ _ (a .1 .1 .0)) }
+  good-arcs = arcs-good (netIn w) (pairUp (arcsIn w)) (R .arcs)
 
-  pub good-ends : (k : ℕ) → k < netIn w .kinds → GoodEnds (netIn w) k
-  good-ends k h = let N : Net = netIn w in
-      let a = all-false (leb (N .places) (N .source k) ∷ leb (N .places) (N .sink k) ∷ not (eqb (N .kindOf (N .source k)) k) ∷ not (eqb (N .kindOf (N .sink k)) k) ∷ eqb (N .source k) (N .sink k) ∷ []) (anyTo-none (netIn w .kinds) (badEnds (netIn w)) (R .ends) k h) in
-      record {
-        source-in = leb-false _ _ (a .0);
-        sink-in = leb-false _ _ (a .1 .0);
-        source-of = is-eq _ _ (a .1 .1 .0);
-        sink-of = is-eq _ _ (a .1 .1 .1 .0);
-      }
+  pub good-ends : (k : ℕ) → k < netIn w .kinds → Ends (netIn w) k
+  good-ends = ends-good (netIn w) (R .ends)
 
   pub kind-in : (p : ℕ) → p < getD w 1 0 → getD w (20 + p) 0 < getD w 0 0
   kind-in p h =
@@ -65,7 +43,7 @@ module _ (w : List ℕ) (R : Ruled w) where
 
   -- both ends of kind k are among 64 marks
   pub end-words : (k : ℕ) → k < getD w 0 0 → (getD w (4 + 2 * k) 0 < 64) × (getD w (5 + 2 * k) 0 < 64)
-  end-words k h = let g : GoodEnds (netIn w) k = good-ends k (omega (arith, kinds-is w (R .sized))) in (
+  end-words k h = let g : Ends (netIn w) k = good-ends k (omega (arith, kinds-is w (R .sized))) in (
     omega (arith, g .source-in, source-at w (R .sized) k h, places-is w (R .sized), R .sized .places),
     omega (arith, g .sink-in, sink-at w (R .sized) k h, places-is w (R .sized), R .sized .places),
   )

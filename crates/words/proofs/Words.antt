@@ -4,7 +4,7 @@ use native.Mathlib.Omega.{arith}
 use native.Mathlib.Nat.{div-div-eq-div-mul, mod-eq-of-lt, div-add-mod', le-of-suc-le-suc, not-suc-le-zero, add-zero}
 use mathlib.Core.Path.{_≡_, refl, sym, ap, ap₂, subst, _∙_}
 use mathlib.Core.List.{List, [], _∷_, _++_, append-nil}
-use lib.ListN.{length, getD, set, length-append}
+use lib.ListN.{length, getD, set}
 use lib.Seq.{sets, getD-set-same, getD-set-other}
 use Rattle.words.specs.Lists.{pick, All}
 use Rattle.words.proofs.Lists.{clash}

@@ -1,8 +1,7 @@
 -- What the words hold after each step, and what each refusal says of the bytes. Assumes nothing.
-use Prim.Native.Nat.{ℕ, _+_, _/_, _≤_}
 use mathlib.Core.Path.{_≡_, sym, subst, _∙_}
 use native.Mathlib.Omega.{arith}
-use lib.ListN.{length, replicate}
+use lib.ListN.{replicate}
 use lib.Seq.{sets}
 use Rattle.words.specs.Refusals.{first}
 use Rattle.words.specs.Words.{bodyOf}

@@ -1,12 +1,9 @@
-use Prim.Native.Nat.{ℕ, zero, suc, _+_, _-_, _*_, _≤_, _<_}
-use mathlib.Core.Path.{_≡_, refl, sym, _∙_}
+use Prim.Native.Nat.{_-_, _*_, _≤_}
+use mathlib.Core.Path.{_≡_, sym, _∙_}
 use native.Mathlib.Nat.{sub-zero}
 use native.Mathlib.Omega.{arith}
 use borrow.Author.Needs.{needs}
-use borrow.Author.Tests.{eq-eqb, ne-eqb}
-use Rattle.words.specs.declared.Bodies.{Bodies}
-use Rattle.words.specs.declared.Bodies.the-variants.{Gap, End}
-use Rattle.words.specs.Words.{word, bodiesFrom, bodiesOf}
+use Rattle.words.specs.Words.{bodiesFrom, bodiesOf}
 use Rattle.words.proofs.Words.{bodies-more, bodies-gap, bodies-end}
 use Rattle.words.proofs.read_bodies.Statement.{statement}
 use Rattle.words.proofs.read_bodies.Tie as tie

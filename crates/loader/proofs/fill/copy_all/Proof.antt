@@ -1,8 +1,8 @@
 -- What is left to store after i words. Assumes nothing.
-use Prim.Native.Nat.{ℕ, _+_, _-_, _≤_, _<_}
+use Prim.Native.Nat.{_-_, _≤_}
 use native.Mathlib.Omega.{arith}
 use mathlib.Core.Path.{_≡_, refl, sym, _∙_}
-use lib.ListN.{length, drop}
+use lib.ListN.{drop}
 use lib.Seq.{sets}
 use borrow.Author.Needs.{needs}
 use Rattle.net.proofs.Stores.{store-more, store-end}

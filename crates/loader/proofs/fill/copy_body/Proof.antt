@@ -1,6 +1,5 @@
 -- Where the body starts and how long it is are read from the contents. Assumes nothing.
 use native.Mathlib.Omega.{arith}
-use mathlib.Core.Path.{_≡_, _∙_}
 use Rattle.words.specs.Words.{bodyOf}
 use Rattle.words.proofs.Words.{length-words}
 use borrow.Author.Needs.{needs}

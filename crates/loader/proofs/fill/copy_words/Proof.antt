@@ -1,9 +1,9 @@
 -- What is left to store after i words. Assumes nothing.
-use Prim.Native.Nat.{ℕ, _+_, _-_, _≤_, _<_}
+use Prim.Native.Nat.{_+_, _-_, _≤_}
 use native.Mathlib.Omega.{arith}
 use native.Mathlib.Nat.{add-zero, add-assoc}
-use mathlib.Core.Path.{_≡_, refl, sym, _∙_}
-use lib.ListN.{length, take, drop}
+use mathlib.Core.Path.{_≡_, sym, _∙_}
+use lib.ListN.{take, drop}
 use lib.Seq.{sets, getD-take, getD-drop}
 use borrow.Author.Needs.{needs}
 use Rattle.words.specs.Words.{wordsOf}

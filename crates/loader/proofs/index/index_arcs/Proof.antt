@@ -1,11 +1,11 @@
 -- What is left to store after a activities, whose arcs are `from`. Assumes nothing.
 use Prim.Native.Nat.{ℕ, _+_, _*_, _-_, _≤_, _<_}
 use native.Mathlib.Omega.{arith}
-use mathlib.Core.Path.{_≡_, refl, sym, ap, _∙_}
-use lib.ListN.{length, getD, take, drop}
+use mathlib.Core.Path.{_≡_, refl, sym, _∙_}
+use lib.ListN.{getD, drop}
 use borrow.Author.Needs.{needs}
 use Rattle.words.specs.Lists.{pairUp, parts, total}
-use Rattle.net.specs.Held.{netIn, countsIn, arcsIn, indexRow, indexRows}
+use Rattle.net.specs.Held.{netIn, countsIn, arcsIn, indexRows}
 use Rattle.loader.proofs.Indexed.{rows-more, rows-end}
 use Rattle.net.proofs.Search.{left-turn}
 use Rattle.net.proofs.Views.{counts-length, count-at}

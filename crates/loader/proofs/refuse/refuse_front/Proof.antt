@@ -1,6 +1,6 @@
 -- Each return by the tests passed on the way. Assumes nothing.
 use Prim.Native.Nat.{ℕ, _≤_}
-use mathlib.Core.Path.{_≡_, sym, _∙_}
+use mathlib.Core.Path.{sym, _∙_}
 use borrow.Author.Tests.{eq-eqb, ne-eqb}
 use Rattle.words.proofs.Lists.{All-at}
 use Rattle.net.specs.Held.{countsIn}

@@ -1,12 +1,11 @@
 -- `unreached` meets its contract: marks from all sources say of each sink whether its own source reaches it. Assumes nothing.
-use native.Mathlib.Nat.{sub-zero}
 use lib.Dec.{eqb}
 use Prim.Native.Nat.{ℕ, _-_, _≤_, _<_}
 use mathlib.Core.Bool.{Bool, not}
-use mathlib.Core.Path.{_≡_, ap, sym, _∙_}
+use mathlib.Core.Path.{_≡_, refl, ap, sym, _∙_}
 use mathlib.Core.List.{List}
 use native.Mathlib.Omega.{arith}
-use lib.ListN.{getD, replicate}
+use lib.ListN.{getD, drop, replicate}
 use borrow.Author.Needs.{needs}
 use borrow.Author.Tests.{eq-eqb, ne-eqb}
 use Rattle.words.specs.Lists.{any, anyTo, upto, pairUp}
@@ -15,7 +14,7 @@ use Rattle.net.specs.Held.{netIn, arcsIn}
 use Rattle.net.specs.Ruled.{sourceMarks}
 use Rattle.net.proofs.Views.{kinds-is}
 use Rattle.rules.proofs.RuledWords.{end-words, sink-marked}
-use Rattle.net.proofs.Search.{to-turn, to-found, to-end}
+use Rattle.net.proofs.Scan.{anyTo-turn, anyTo-found, anyTo-end}
 use Rattle.rules.proofs.reach.unreached.Statement.{statement}
 use Rattle.rules.proofs.reach.unreached.Tie as tie
 
@@ -24,7 +23,7 @@ abbrev lost : List ℕ → ℕ → Bool
 lost w k = not (marked (netIn w .places) (pairUp (arcsIn w)) (netIn w .source k) (netIn w .sink k))
 
 abbrev Inv-loop : tie.InvT-loop
-Inv-loop w m n k₀ k = (k ≤ n) × (any (lost w) (upto (netIn w .kinds - k) k) ≡ anyTo (netIn w .kinds) (lost w))
+Inv-loop w m n k₀ k = (k ≤ n) × (any (lost w) (drop k (upto (netIn w .kinds) 0)) ≡ anyTo (netIn w .kinds) (lost w))
 
 abbrev μ-loop : tie.MeasureT-loop
 μ-loop w m n k₀ k = n - k
@@ -59,7 +58,7 @@ wide-requires : tie.Need-wide-requires Inv-loop μ-loop
 wide-requires c κs = search needs
 
 loop-holds : tie.Need-loop-holds Inv-loop μ-loop
-loop-holds c = (omega arith, rw sub-zero)
+loop-holds c = (omega arith, refl)
 
 mul-wide : tie.Need-mul-wide Inv-loop μ-loop
 mul-wide c = search needs
@@ -85,7 +84,7 @@ array-read-if1 c = below c
 returns : tie.Need-returns Inv-loop μ-loop
 returns c =
     let p = c .before in let k : ℕ = p .before .before .before .loop .k in let w : List ℕ = p .before .before .before .before .before .before .before .before .before .before .args .w .now in
-    sym (sym (p .before .before .before .loop .inv .1) ∙ to-found (netIn w .kinds) (lost w) k (inside p) (ap not (sym (is-marked p) ∙ ne-eqb _ _ (c .if1 .taken))))
+    anyTo-found (lost w) (netIn w .kinds) k (inside p) (ap not (sym (is-marked p) ∙ ne-eqb _ _ (c .if1 .taken))) ∙ p .before .before .before .loop .inv .1
 
 add-k : tie.Need-add-k Inv-loop μ-loop
 add-k c = search needs
@@ -96,12 +95,12 @@ loop-less c = search needs
 loop-again : tie.Need-loop-again Inv-loop μ-loop
 loop-again c =
     let p = c .before in let k : ℕ = p .before .before .before .loop .k in let w : List ℕ = p .before .before .before .before .before .before .before .before .before .before .args .w .now in
-    (omega arith, sym (to-turn (netIn w .kinds) (lost w) k (inside p) (ap not (sym (is-marked p) ∙ eq-eqb _ _ (c .if1 .left)))) ∙ p .before .before .before .loop .inv .1)
+    (omega arith, anyTo-turn (lost w) (netIn w .kinds) k (inside p) (ap not (sym (is-marked p) ∙ eq-eqb _ _ (c .if1 .left))) ∙ p .before .before .before .loop .inv .1)
 
 returns-2 : tie.Need-returns-2 Inv-loop μ-loop
 returns-2 c =
     let w : List ℕ = c .before .before .before .before .before .before .before .before .args .w .now in let k : ℕ = c .before .loop .k in
-    sym (sym (c .before .loop .inv .1) ∙ to-end (netIn w .kinds) (lost w) k (omega (arith, c .loop-test .left, c .before .before .wide .ensures, kinds-is w (c .before .before .before .before .before .before .before .before .pre .sized))))
+    anyTo-end (lost w) (netIn w .kinds) k (omega (arith, c .loop-test .left, c .before .before .wide .ensures, kinds-is w (c .before .before .before .before .before .before .before .before .pre .sized))) ∙ c .before .loop .inv .1
 
 pub unreached-spec : {M : Type 1} → statement M
 unreached-spec =
