@@ -8,3 +8,4 @@ pub mod Interleave
 pub mod Encode
 pub mod Rows
 pub mod Theorems
+pub mod RecordLaws

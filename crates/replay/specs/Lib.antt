@@ -7,3 +7,5 @@ pub mod Record
 pub mod Claims
 pub mod Rows
 pub mod Calls
+pub mod Offsets
+pub mod Ready
