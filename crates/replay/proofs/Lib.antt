@@ -8,4 +8,5 @@ pub mod Interleave
 pub mod Encode
 pub mod Rows
 pub mod Theorems
+pub mod RecordLaws
 pub mod StartLaws

@@ -7,5 +7,7 @@ pub mod Record
 pub mod Claims
 pub mod Rows
 pub mod Calls
+pub mod Offsets
+pub mod Ready
 pub mod StartAnswers
 pub mod Startable
