@@ -10,3 +10,5 @@ pub mod Rows
 pub mod Theorems
 pub mod RecordLaws
 pub mod StartLaws
+pub mod CountLaws
+pub mod ReadLaws

@@ -11,3 +11,4 @@ pub mod Offsets
 pub mod Ready
 pub mod StartAnswers
 pub mod Startable
+pub mod Reads

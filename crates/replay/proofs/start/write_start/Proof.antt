@@ -41,7 +41,7 @@ returns-2 : tie.Need-returns-2
 returns-2 c =
     let a = c .before .before .before .before .before .before .before .before .before .args in
     let p = c .before .before .before .before .before .before .before .before .before .pre in
-    let s : c .before .before .before .before .before .record-bytes .result ≡ length (startRecord (a .table .now) (wordsOf (a .objects .now))) = c .before .before .before .before .before .record-bytes .ensures ∙ sym (record-size (a .t .now) (a .table .now) (a .objects .now) (p .0) (p .1)) in
+    let s : c .before .before .before .before .before .record-bytes .result ≡ length (startRecord (a .table .now) (wordsOf (a .objects .now))) = omega (arith, c .before .before .before .before .before .record-bytes .ensures, record-size (a .t .now) (a .table .now) (a .objects .now) (p .0) (p .1)) in
     let r = taken (a .table .now) (a .objects .now) (a .rec .now) (p .1) (omega (arith, s, c .before .before .before .before .if1 .left)) in
     (r .0, rw (c .before .before .fill .ensures, s) (r .1))
 
