@@ -8,3 +8,7 @@ pub mod Interleave
 pub mod Encode
 pub mod Rows
 pub mod Theorems
+pub mod RecordLaws
+pub mod StartLaws
+pub mod CountLaws
+pub mod ReadLaws

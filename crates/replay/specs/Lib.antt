@@ -7,3 +7,8 @@ pub mod Record
 pub mod Claims
 pub mod Rows
 pub mod Calls
+pub mod Offsets
+pub mod Ready
+pub mod StartAnswers
+pub mod Startable
+pub mod Reads

@@ -1,0 +1,274 @@
+-- A desk record as four-byte numbers: where each one stands, reading one, and writing one. Assumes nothing.
+use Prim.Native.Nat.{ℕ, zero, suc, _+_, _*_, _/_, _≤_, _<_}
+use mathlib.Core.Path.{_≡_, refl, ap, sym, _∙_, subst}
+use mathlib.Core.List.{List, [], _∷_, _++_}
+use native.Mathlib.Omega.{arith}
+use native.Mathlib.Nat.{mul-le-mul}
+use lib.ListN.{length, getD, set, take, drop, length-append, length-set, List·getD-append}
+use lib.Seq.{getD-append-add, set-append-left, getD-drop}
+use Rattle.words.specs.Words.{word, wordsOf, bytesOf}
+use Rattle.words.proofs.Words.{length-words, bytes-of-words}
+use Rattle.net.specs.Net.{Net, Loaded}
+use Rattle.net.specs.Held.{netIn}
+use Rattle.net.proofs.HeldLaws.{held-loaded}
+use Rattle.replay.specs.declared.layout.Layout.{Layout}
+use Rattle.replay.specs.State.{State}
+use Rattle.replay.specs.Sound.{Sound}
+use Rattle.replay.specs.Record.{interleave, counts, encode, tableIn, stateIn}
+use Rattle.replay.specs.Calls.{netAt, stateAt}
+use Rattle.replay.specs.Offsets.{layoutOf}
+use Rattle.replay.specs.Ready.{Ready}
+use Rattle.replay.proofs.Interleave.{length-interleave, interleave-even, interleave-odd, interleave-set-even, interleave-set-odd}
+use Rattle.replay.proofs.Encode.{Laid, intact-laid, counts-size, recordWords, words-encode, bytes-encode}
+
+-- the state d with one part changed
+abbrev pub withPlaces : State → List ℕ → State
+withPlaces d x = record { kinds = d .kinds; places = x; closed = d .closed; events = d .events; closing = d .closing; fired = d .fired; jumps = d .jumps; pairs = d .pairs }
+
+abbrev pub withClosed : State → ℕ → State
+withClosed d x = record { kinds = d .kinds; places = d .places; closed = x; events = d .events; closing = d .closing; fired = d .fired; jumps = d .jumps; pairs = d .pairs }
+
+abbrev pub withEvents : State → ℕ → State
+withEvents d x = record { kinds = d .kinds; places = d .places; closed = d .closed; events = x; closing = d .closing; fired = d .fired; jumps = d .jumps; pairs = d .pairs }
+
+abbrev pub withClosing : State → ℕ → State
+withClosing d x = record { kinds = d .kinds; places = d .places; closed = d .closed; events = d .events; closing = x; fired = d .fired; jumps = d .jumps; pairs = d .pairs }
+
+abbrev pub withFired : State → List ℕ → State
+withFired d x = record { kinds = d .kinds; places = d .places; closed = d .closed; events = d .events; closing = d .closing; fired = x; jumps = d .jumps; pairs = d .pairs }
+
+abbrev pub withJumps : State → List ℕ → State
+withJumps d x = record { kinds = d .kinds; places = d .places; closed = d .closed; events = d .events; closing = d .closing; fired = d .fired; jumps = x; pairs = d .pairs }
+
+abbrev pub withPairs : State → List ℕ → State
+withPairs d x = record { kinds = d .kinds; places = d .places; closed = d .closed; events = d .events; closing = d .closing; fired = d .fired; jumps = d .jumps; pairs = x }
+
+-- l is the layout of a record of a table and the state d, of the net N: how large the parts are, and what follows what
+pub record Placed (N : Net) (table : List ℕ) (l : Layout) (d : State) : Type 0 where
+  pub register-at : 10 + length (wordsOf table) ≡ l .register
+  pub positions-at : l .register + l .objects ≡ l .positions
+  pub counts-at : l .positions + l .objects ≡ l .counts
+  pub jumps-at : l .counts + (3 + 2 * N .acts) ≡ l .jumps
+  pub places-are : l .places ≡ N .places
+  pub kinds-size : length (d .kinds) ≡ l .objects
+  pub places-size : length (d .places) ≡ l .objects
+  pub fired-size : length (d .fired) ≡ N .acts
+  pub jumps-size : length (d .jumps) ≡ N .acts
+  pub pairs-size : length (d .pairs) ≡ l .places * l .places
+  pub table-few : length (wordsOf table) ≤ 1176
+  pub objects-few : l .objects ≤ 1024
+  pub acts-few : N .acts ≤ 64
+  pub places-few : l .places ≤ 64
+
+-- past the first of two lists
+past : (xs ys : List ℕ) (m i : ℕ) → m ≡ length xs + i → getD (xs ++ ys) m 0 ≡ getD ys i 0
+past xs ys m i e = rw e (getD-append-add xs ys i 0)
+
+set-past : (xs ys : List ℕ) (m i v : ℕ) → m ≡ length xs + i → set (xs ++ ys) m v ≡ xs ++ set ys i v
+set-past [] ys m i v e = ap (λ (k : ℕ). set ys k v) (e ∙ omega arith)
+set-past (x ∷ xs) ys m i v e = ap (λ (k : ℕ). set (x ∷ (xs ++ ys)) k v) (step m (length xs + i) (omega arith)) ∙ ap (λ (r : List ℕ). x ∷ r) (set-past xs ys (length xs + i) i v refl)
+  where
+    step : (a b : ℕ) → a ≡ suc b → a ≡ suc b
+    step a b q = q
+
+-- four bodies behind the contents and the table
+abbrev front : ℕ → ℕ → ℕ → ℕ → ℕ → List ℕ
+front t k p c j = 40 ∷ t ∷ (40 + t) ∷ 4 * k ∷ (40 + t + 4 * k) ∷ 4 * p ∷ (40 + t + 4 * k + 4 * p) ∷ 4 * c ∷ (40 + t + 4 * k + 4 * p + 4 * c) ∷ 4 * j ∷ []
+
+abbrev four : List ℕ → List ℕ → List ℕ → List ℕ → List ℕ → List ℕ
+four table ks ps cs js = front (length table) (length ks) (length ps) (length cs) (length js) ++ (wordsOf table ++ (ks ++ (ps ++ (cs ++ js))))
+
+module _ (table ks ps cs js : List ℕ) where
+  abbrev head : List ℕ
+  head = front (length table) (length ks) (length ps) (length cs) (length js)
+
+  four-size : length (four table ks ps cs js) ≡ 10 + length (wordsOf table) + length ks + length ps + length cs + length js
+  four-size = simp length-append (omega arith)
+
+  -- what stands behind the contents, the table, the first and the second body
+  abbrev r3 : List ℕ
+  r3 = cs ++ js
+
+  abbrev r2 : List ℕ
+  r2 = ps ++ r3
+
+  abbrev r1 : List ℕ
+  r1 = ks ++ r2
+
+  abbrev r0 : List ℕ
+  r0 = wordsOf table ++ r1
+
+  at-ks : (m o : ℕ) → m ≡ 10 + length (wordsOf table) + o → o < length ks → getD (four table ks ps cs js) m 0 ≡ getD ks o 0
+  at-ks m o e h = past head r0 m (length (wordsOf table) + o) (omega arith) ∙ past (wordsOf table) r1 _ o refl ∙ List·getD-append ks r2 0 o h
+
+  at-ps : (m o : ℕ) → m ≡ 10 + length (wordsOf table) + length ks + o → o < length ps → getD (four table ks ps cs js) m 0 ≡ getD ps o 0
+  at-ps m o e h = past head r0 m (length (wordsOf table) + (length ks + o)) (omega arith) ∙ past (wordsOf table) r1 _ (length ks + o) refl ∙ past ks r2 _ o refl ∙ List·getD-append ps r3 0 o h
+
+  at-cs : (m o : ℕ) → m ≡ 10 + length (wordsOf table) + length ks + length ps + o → o < length cs → getD (four table ks ps cs js) m 0 ≡ getD cs o 0
+  at-cs m o e h =
+      past head r0 m (length (wordsOf table) + (length ks + (length ps + o))) (omega arith) ∙ past (wordsOf table) r1 _ (length ks + (length ps + o)) refl
+      ∙ past ks r2 _ (length ps + o) refl ∙ past ps r3 _ o refl ∙ List·getD-append cs js 0 o h
+
+  at-js : (m o : ℕ) → m ≡ 10 + length (wordsOf table) + length ks + length ps + length cs + o → getD (four table ks ps cs js) m 0 ≡ getD js o 0
+  at-js m o e =
+      past head r0 m (length (wordsOf table) + (length ks + (length ps + (length cs + o)))) (omega arith) ∙ past (wordsOf table) r1 _ (length ks + (length ps + (length cs + o))) refl
+      ∙ past ks r2 _ (length ps + (length cs + o)) refl ∙ past ps r3 _ (length cs + o) refl ∙ past cs js _ o refl
+
+  set-ps : (m o v : ℕ) → m ≡ 10 + length (wordsOf table) + length ks + o → o < length ps → set (four table ks ps cs js) m v ≡ four table ks (set ps o v) cs js
+  set-ps m o v e h = rw (length-set ps o v)
+      (set-past head r0 m (length (wordsOf table) + (length ks + o)) v (omega arith)
+      ∙ ap (λ (r : List ℕ). head ++ r) (set-past (wordsOf table) r1 _ (length ks + o) v refl ∙ ap (λ (r : List ℕ). wordsOf table ++ r) (set-past ks r2 _ o v refl ∙ ap (λ (r : List ℕ). ks ++ r) (set-append-left ps r3 o v h))))
+
+  set-cs : (m o v : ℕ) → m ≡ 10 + length (wordsOf table) + length ks + length ps + o → o < length cs → set (four table ks ps cs js) m v ≡ four table ks ps (set cs o v) js
+  set-cs m o v e h = rw (length-set cs o v)
+      (set-past head r0 m (length (wordsOf table) + (length ks + (length ps + o))) v (omega arith)
+      ∙ ap (λ (r : List ℕ). head ++ r) (set-past (wordsOf table) r1 _ (length ks + (length ps + o)) v refl ∙ ap (λ (r : List ℕ). wordsOf table ++ r) (set-past ks r2 _ (length ps + o) v refl
+      ∙ ap (λ (r : List ℕ). ks ++ r) (set-past ps r3 _ o v refl ∙ ap (λ (r : List ℕ). ps ++ r) (set-append-left cs js o v h)))))
+
+  set-js : (m o v : ℕ) → m ≡ 10 + length (wordsOf table) + length ks + length ps + length cs + o → set (four table ks ps cs js) m v ≡ four table ks ps cs (set js o v)
+  set-js m o v e = rw (length-set js o v)
+      (set-past head r0 m (length (wordsOf table) + (length ks + (length ps + (length cs + o)))) v (omega arith)
+      ∙ ap (λ (r : List ℕ). head ++ r) (set-past (wordsOf table) r1 _ (length ks + (length ps + (length cs + o))) v refl ∙ ap (λ (r : List ℕ). wordsOf table ++ r) (set-past ks r2 _ (length ps + (length cs + o)) v refl
+      ∙ ap (λ (r : List ℕ). ks ++ r) (set-past ps r3 _ (length cs + o) v refl ∙ ap (λ (r : List ℕ). ps ++ r) (set-past cs js _ o v refl)))))
+
+-- three numbers in front of a list
+past-three : (x y z : ℕ) (r : List ℕ) (m i : ℕ) → m ≡ suc (suc (suc i)) → getD (x ∷ y ∷ z ∷ r) m 0 ≡ getD r i 0
+past-three x y z r m i e = rw e
+
+set-three : (x y z : ℕ) (r : List ℕ) (m i v : ℕ) → m ≡ suc (suc (suc i)) → set (x ∷ y ∷ z ∷ r) m v ≡ x ∷ y ∷ z ∷ set r i v
+set-three x y z r m i v e = rw e
+
+module _ (N : Net) (table : List ℕ) (l : Layout) (d : State) (P : Placed N table l d) where
+  counts-length : length (counts d) ≡ 3 + 2 * N .acts
+  counts-length = omega (arith, length-interleave (d .fired) (d .jumps) (P .fired-size ∙ sym (P .jumps-size)), P .fired-size)
+
+  -- how many numbers there are
+  pub record-size : length (recordWords table d) ≡ l .jumps + l .places * l .places
+  record-size = omega (arith, four-size table (d .kinds) (d .places) (counts d) (d .pairs), counts-length, P .register-at, P .positions-at, P .counts-at, P .jumps-at, P .kinds-size, P .places-size, P .pairs-size)
+
+  pub record-few : length (recordWords table d) ≤ 7461
+  record-few = omega (arith, record-size, mul-le-mul (P .places-few) (P .places-few), P .register-at, P .positions-at, P .counts-at, P .jumps-at, P .table-few, P .objects-few, P .acts-few)
+
+  -- reading
+  pub get-kind : (o : ℕ) → o < l .objects → getD (recordWords table d) (l .register + o) 0 ≡ getD (d .kinds) o 0
+  get-kind o h = at-ks table (d .kinds) (d .places) (counts d) (d .pairs) (l .register + o) o (omega (arith, P .register-at)) (omega (arith, P .kinds-size))
+
+  pub get-place : (o : ℕ) → o < l .objects → getD (recordWords table d) (l .positions + o) 0 ≡ getD (d .places) o 0
+  get-place o h = at-ps table (d .kinds) (d .places) (counts d) (d .pairs) (l .positions + o) o (omega (arith, P .register-at, P .positions-at, P .kinds-size)) (omega (arith, P .places-size))
+
+  get-count : (i : ℕ) → i < 3 + 2 * N .acts → getD (recordWords table d) (l .counts + i) 0 ≡ getD (counts d) i 0
+  get-count i h = at-cs table (d .kinds) (d .places) (counts d) (d .pairs) (l .counts + i) i (omega (arith, P .register-at, P .positions-at, P .counts-at, P .kinds-size, P .places-size)) (omega (arith, counts-length))
+
+  pub get-closed : getD (recordWords table d) (l .counts) 0 ≡ d .closed
+  get-closed = let z : l .counts ≡ l .counts + 0 = omega arith in ap (λ (i : ℕ). getD (recordWords table d) i 0) z ∙ get-count 0 (omega arith)
+
+  pub get-events : getD (recordWords table d) (l .counts + 1) 0 ≡ d .events
+  get-events = get-count 1 (omega arith)
+
+  pub get-closing : getD (recordWords table d) (l .counts + 2) 0 ≡ d .closing
+  get-closing = get-count 2 (omega arith)
+
+  pub get-fired : (a : ℕ) → a < N .acts → getD (recordWords table d) (l .counts + (3 + 2 * a)) 0 ≡ getD (d .fired) a 0
+  get-fired a h = get-count (3 + 2 * a) (omega arith) ∙ past-three _ _ _ (interleave (d .fired) (d .jumps)) (3 + 2 * a) (2 * a) (omega arith) ∙ interleave-even (d .fired) (d .jumps) a (P .fired-size ∙ sym (P .jumps-size))
+
+  pub get-jumps : (a : ℕ) → a < N .acts → getD (recordWords table d) (l .counts + (4 + 2 * a)) 0 ≡ getD (d .jumps) a 0
+  get-jumps a h = get-count (4 + 2 * a) (omega arith) ∙ past-three _ _ _ (interleave (d .fired) (d .jumps)) (4 + 2 * a) (2 * a + 1) (omega arith) ∙ interleave-odd (d .fired) (d .jumps) a (P .fired-size ∙ sym (P .jumps-size))
+
+  pub get-pair : (i : ℕ) → getD (recordWords table d) (l .jumps + i) 0 ≡ getD (d .pairs) i 0
+  get-pair i = at-js table (d .kinds) (d .places) (counts d) (d .pairs) (l .jumps + i) i (omega (arith, P .register-at, P .positions-at, P .counts-at, P .jumps-at, P .kinds-size, P .places-size, counts-length))
+
+  -- writing
+  pub put-place : (o v : ℕ) → o < l .objects → set (recordWords table d) (l .positions + o) v ≡ recordWords table (withPlaces d (set (d .places) o v))
+  put-place o v h = set-ps table (d .kinds) (d .places) (counts d) (d .pairs) (l .positions + o) o v (omega (arith, P .register-at, P .positions-at, P .kinds-size)) (omega (arith, P .places-size))
+
+  put-count : (i v : ℕ) (e : State) → i < 3 + 2 * N .acts → set (counts d) i v ≡ counts e → e .kinds ≡ d .kinds → e .places ≡ d .places → e .pairs ≡ d .pairs
+      → set (recordWords table d) (l .counts + i) v ≡ recordWords table e
+  put-count i v e h q ek ep ej = set-cs table (d .kinds) (d .places) (counts d) (d .pairs) (l .counts + i) i v (omega (arith, P .register-at, P .positions-at, P .counts-at, P .kinds-size, P .places-size)) (omega (arith, counts-length))
+      ∙ rw (q, ← ek, ← ep, ← ej)
+
+  pub put-closed : (v : ℕ) → set (recordWords table d) (l .counts) v ≡ recordWords table (withClosed d v)
+  put-closed v = let z : l .counts ≡ l .counts + 0 = omega arith in ap (λ (i : ℕ). set (recordWords table d) i v) z ∙ put-count 0 v (withClosed d v) (omega arith) refl refl refl refl
+
+  pub put-events : (v : ℕ) → set (recordWords table d) (l .counts + 1) v ≡ recordWords table (withEvents d v)
+  put-events v = put-count 1 v (withEvents d v) (omega arith) refl refl refl refl
+
+  pub put-closing : (v : ℕ) → set (recordWords table d) (l .counts + 2) v ≡ recordWords table (withClosing d v)
+  put-closing v = put-count 2 v (withClosing d v) (omega arith) refl refl refl refl
+
+  pub put-fired : (a v : ℕ) → a < N .acts → set (recordWords table d) (l .counts + (3 + 2 * a)) v ≡ recordWords table (withFired d (set (d .fired) a v))
+  put-fired a v h = put-count (3 + 2 * a) v (withFired d (set (d .fired) a v)) (omega arith)
+      (set-three _ _ _ (interleave (d .fired) (d .jumps)) (3 + 2 * a) (2 * a) v (omega arith) ∙ ap (λ (r : List ℕ). d .closed ∷ d .events ∷ d .closing ∷ r) (sym (interleave-set-even (d .fired) (d .jumps) a v))) refl refl refl
+
+  pub put-jumps : (a v : ℕ) → a < N .acts → set (recordWords table d) (l .counts + (4 + 2 * a)) v ≡ recordWords table (withJumps d (set (d .jumps) a v))
+  put-jumps a v h = put-count (4 + 2 * a) v (withJumps d (set (d .jumps) a v)) (omega arith)
+      (set-three _ _ _ (interleave (d .fired) (d .jumps)) (4 + 2 * a) (2 * a + 1) v (omega arith) ∙ ap (λ (r : List ℕ). d .closed ∷ d .events ∷ d .closing ∷ r) (sym (interleave-set-odd (d .fired) (d .jumps) a v))) refl refl refl
+
+  pub put-pair : (i v : ℕ) → set (recordWords table d) (l .jumps + i) v ≡ recordWords table (withPairs d (set (d .pairs) i v))
+  put-pair i v = set-js table (d .kinds) (d .places) (counts d) (d .pairs) (l .jumps + i) i v (omega (arith, P .register-at, P .positions-at, P .counts-at, P .jumps-at, P .kinds-size, P .places-size, counts-length))
+
+-- bytes of a part
+take-small : (n : ℕ) (s : List ℕ) → ((i : ℕ) → getD s i 0 < 256) → (i : ℕ) → getD (take n s) i 0 < 256
+take-small zero s f i = omega arith
+take-small (suc n) [] f i = omega arith
+take-small (suc n) (x ∷ s) f zero = f 0
+take-small (suc n) (x ∷ s) f (suc i) = take-small n s (λ j. f (suc j)) i
+
+drop-small : (n : ℕ) (s : List ℕ) → ((i : ℕ) → getD s i 0 < 256) → (i : ℕ) → getD (drop n s) i 0 < 256
+drop-small n s f i = rw (getD-drop n s i 0) (f (n + i))
+
+-- a record that a call can be put to
+module _ (w b : List ℕ) (R : Ready w b) where
+  pub ready-loaded : Loaded (netIn w)
+  ready-loaded = held-loaded w (R .held)
+
+  loaded-at : Loaded (netAt b)
+  loaded-at = subst Loaded (R .net) ready-loaded
+
+  pub ready-sound : Sound (netIn w) (stateAt b)
+  unfolding stateAt
+  ready-sound = subst (λ (N : Net). Sound N (stateIn (netAt b) b)) (sym (R .net)) (R .intact .sound)
+
+  ready-laid : Laid b (tableIn b) (stateAt b)
+  unfolding stateAt
+  ready-laid = intact-laid (netAt b) loaded-at b (R .intact)
+
+  table-whole : length (tableIn b) ≡ 4 * (length (tableIn b) / 4)
+  table-whole = omega (arith, R .whole)
+
+  -- the record's numbers, and where they stand
+  pub ready-words : wordsOf b ≡ recordWords (tableIn b) (stateAt b)
+  unfolding stateAt
+  ready-words = ap wordsOf (R .intact .bytes) ∙ words-encode (tableIn b) (stateIn (netAt b) b) (length (tableIn b) / 4) table-whole (netAt b) loaded-at (R .intact .sound) (R .intact .table-size)
+
+  pub ready-placed : Placed (netIn w) (tableIn b) (layoutOf (netIn w) b) (stateAt b)
+  unfolding layoutOf
+  ready-placed = let S = ready-sound in let L = ready-laid in let t = length-words (tableIn b) in let c = counts-size (netIn w) (stateAt b) S in record {
+    register-at = omega (arith, L .kinds-at, R .whole);
+    positions-at = omega (arith, L .kinds-at, L .kinds-len, L .places-at);
+    counts-at = omega (arith, L .kinds-len, L .places-at, L .counts-at, S .on .size);
+    jumps-at = omega (arith, L .counts-at, L .pairs-at);
+    places-are = refl;
+    kinds-size = omega (arith, L .kinds-len);
+    places-size = omega (arith, L .kinds-len, S .on .size);
+    fired-size = S .fired-size;
+    jumps-size = S .jumps-size;
+    pairs-size = S .pairs-size;
+    table-few = omega (arith, R .intact .table-size);
+    objects-few = omega (arith, L .kinds-len, S .few);
+    acts-few = ready-loaded .acts-le;
+    places-few = ready-loaded .places-le;
+  }
+
+  pub ready-contents : 40 ≤ length b
+  ready-contents = omega (arith, ready-laid .size)
+
+  pub ready-length : length b ≡ 4 * length (wordsOf b)
+  ready-length = let S = ready-sound in omega (arith, ready-laid .size, length-words b, R .whole)
+
+  -- bytes from numbers: bytes of the record's length whose numbers are those of the state e
+  pub ready-bytes : (s : List ℕ) (e : State) → wordsOf s ≡ recordWords (tableIn b) e → length s ≡ length b → ((i : ℕ) → getD b i 0 < 256) → ((i : ℕ) → getD s i 0 < 256) → s ≡ encode (tableIn b) e
+  unfolding tableIn
+  ready-bytes s e q n f g =
+      sym (bytes-of-words s (omega (arith, length-words s, length-words b, ready-length)) g)
+      ∙ ap bytesOf q
+      ∙ bytes-encode (tableIn b) e (length (tableIn b) / 4) table-whole (take-small (word b 4) (drop (word b 0) b) (drop-small (word b 0) b f))

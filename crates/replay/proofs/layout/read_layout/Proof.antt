@@ -1,0 +1,39 @@
+-- `read_layout` meets its contract: each number is the one that `layoutOf` takes from the contents. Assumes nothing.
+use borrow.Author.Needs.{needs}
+use Rattle.replay.specs.Offsets.{layoutOf}
+use Rattle.replay.proofs.layout.read_layout.Statement.{statement}
+use Rattle.replay.proofs.layout.read_layout.Tie as tie
+
+quarter-requires : tie.Need-quarter-requires
+quarter-requires c κs = search needs
+
+quarter-requires-2 : tie.Need-quarter-requires-2
+quarter-requires-2 c κs = search needs
+
+quarter-requires-3 : tie.Need-quarter-requires-3
+quarter-requires-3 c κs = search needs
+
+quarter-requires-4 : tie.Need-quarter-requires-4
+quarter-requires-4 c κs = search needs
+
+quarter-requires-5 : tie.Need-quarter-requires-5
+quarter-requires-5 c κs = search needs
+
+places-requires : tie.Need-places-requires
+places-requires c κs = search needs
+
+returns : tie.Need-returns
+unfolding layoutOf
+returns c = cc
+
+pub read-layout-spec : {M : Type 1} → statement M
+read-layout-spec =
+    tie.close
+    (tie.spec
+    quarter-requires
+    quarter-requires-2
+    quarter-requires-3
+    quarter-requires-4
+    quarter-requires-5
+    places-requires
+    returns)
