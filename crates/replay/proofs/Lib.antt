@@ -9,3 +9,6 @@ pub mod Encode
 pub mod Rows
 pub mod Theorems
 pub mod RecordLaws
+pub mod Loops
+pub mod Walk
+pub mod Asked

@@ -9,3 +9,5 @@ pub mod Rows
 pub mod Calls
 pub mod Offsets
 pub mod Ready
+pub mod Moves
+pub mod Answers
