@@ -9,8 +9,9 @@ use lib.Seq.{getD-take, ext-getD}
 use Rattle.words.specs.Lists.{All, any}
 use Rattle.words.specs.Words.{wordsOf}
 use Rattle.words.proofs.Lists.{All-at, map-at}
-use Rattle.net.specs.Net.{Net, takes}
+use Rattle.net.specs.Net.{Net, GoodArc, takes, inputOf, outputOf}
 use Rattle.net.specs.Held.{netIn}
+use Rattle.net.proofs.IndexLaws.{arc-has}
 use Rattle.replay.specs.Plain.{kindsOf}
 use Rattle.replay.specs.Record.{tableIn}
 use Rattle.replay.specs.Calls.{stateAt}
@@ -18,7 +19,7 @@ use Rattle.replay.specs.Offsets.{layoutOf}
 use Rattle.replay.specs.Ready.{Ready}
 use Rattle.replay.specs.Answers.{Counted, Known, Moving}
 use Rattle.replay.specs.declared.layout.Layout.{Layout}
-use Rattle.replay.proofs.RecordLaws.{Placed, record-size, record-few, get-kind, ready-loaded, ready-sound, ready-words, ready-placed}
+use Rattle.replay.proofs.RecordLaws.{Placed, record-size, record-few, get-kind, get-closed, get-events, ready-loaded, ready-sound, ready-words, ready-placed}
 
 -- the layout, and how many numbers there are
 module _ (w b : List ℕ) (l : Layout) (R : Ready w b) (e : l ≡ layoutOf (netIn w) b) where
@@ -30,6 +31,21 @@ module _ (w b : List ℕ) (l : Layout) (R : Ready w b) (e : l ≡ layoutOf (netI
 
   pub words-few : length (wordsOf b) ≤ 7461
   words-few = rw (ready-words w b R) (record-few (netIn w) (tableIn b) l (stateAt b) placed-at)
+
+  pub count-in : (i : ℕ) → i < 3 + 2 * netIn w .acts → l .counts + i < length (wordsOf b)
+  count-in i h = omega (arith, words-size, placed-at .jumps-at)
+
+  pub counts-few : l .counts + (3 + 2 * netIn w .acts) ≤ 7461
+  counts-few = omega (arith, words-size, words-few, placed-at .jumps-at)
+
+  pub closed-in : l .counts < length (wordsOf b)
+  closed-in = omega (arith, words-size, placed-at .jumps-at)
+
+  pub closed-read : getD (wordsOf b) (l .counts) 0 ≡ stateAt b .closed
+  closed-read = ap (λ (v : List ℕ). getD v (l .counts) 0) (ready-words w b R) ∙ get-closed (netIn w) (tableIn b) l (stateAt b) placed-at
+
+  pub events-read : getD (wordsOf b) (l .counts + 1) 0 ≡ stateAt b .events
+  events-read = ap (λ (v : List ℕ). getD v (l .counts + 1) 0) (ready-words w b R) ∙ get-events (netIn w) (tableIn b) l (stateAt b) placed-at
 
 module _ (w b : List ℕ) (l : Layout) (a : ℕ) (os : List ℕ) (C : Counted w b l a os) where
   pub few-objects : length os ≤ 8
@@ -64,3 +80,30 @@ module _ (w b : List ℕ) (l : Layout) (a : ℕ) (os : List ℕ) (K : Known w b 
   kinds-kept ks e f =
       let n : length (take (length os) ks) ≡ length os = simp length-take (omega (arith, few-objects w b l a os (K .counted))) in
       ext-getD 0 (take (length os) ks) (kindsOf (stateAt b .kinds) os) (n ∙ sym kinds-length) (λ i h. getD-take (length os) ks i 0 (omega arith) ∙ f i (omega arith))
+
+-- the kinds kept of an event's objects
+module _ (w b : List ℕ) (l : Layout) (a : ℕ) (os ks : List ℕ) (M : Moving w b l a os ks) (i : ℕ) (h : i < length os) where
+  kept-at : getD ks i 0 ≡ getD (kindsOf (stateAt b .kinds) os) i 0
+  kept-at = sym (getD-take (length os) ks i 0 h) ∙ ap (λ (x : List ℕ). getD x i 0) (M .kinds)
+
+  pub kept-is : getD ks i 0 ≡ getD (stateAt b .kinds) (getD os i 0) 0
+  kept-is = kept-at ∙ kind-is w b l a os (M .known) i h
+
+  pub kept-in : getD ks i 0 < netIn w .kinds
+  kept-in = rw kept-at (kind-in w b l a os (M .known) i h)
+
+  pub kept-takes : takes (netIn w) a (getD ks i 0) ≡ true
+  kept-takes = rw kept-at (All-at (λ (k : ℕ). takes (netIn w) a k ≡ true) 0 (kindsOf (stateAt b .kinds) os) (M .taken) i (omega (arith, kinds-length w b l a os (M .known))))
+
+  arc-good : GoodArc (netIn w) (inputOf (netIn w) a (getD ks i 0), outputOf (netIn w) a (getD ks i 0))
+  arc-good = arc-has (netIn w .kindOf) (GoodArc (netIn w)) (getD ks i 0) (netIn w .arcs a) (ready-loaded w b (M .known .counted .ready) .arc-good a (M .known .counted .act-in)) kept-takes
+
+  pub inp-in : inputOf (netIn w) a (getD ks i 0) < l .places
+  inp-in = omega (arith, arc-good .inp, placed w b l a os (M .known) .places-are)
+
+  pub out-in : outputOf (netIn w) a (getD ks i 0) < l .places
+  out-in = omega (arith, arc-good .out, placed w b l a os (M .known) .places-are)
+
+  pub own-in : (l .counts + (4 + 2 * a) < l .jumps) × (l .jumps ≤ 7461)
+  own-in = let P = placed w b l a os (M .known) in
+      (omega (arith, M .known .counted .act-in, P .jumps-at), omega (arith, words-size w b l (M .known .counted .ready) (M .known .counted .lay), words-few w b l (M .known .counted .ready) (M .known .counted .lay)))

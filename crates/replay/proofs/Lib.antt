@@ -12,3 +12,5 @@ pub mod RecordLaws
 pub mod Loops
 pub mod Walk
 pub mod Asked
+pub mod Steps
+pub mod Taken
