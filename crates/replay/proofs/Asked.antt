@@ -1,15 +1,14 @@
 -- An event put to a record: the layout fits, its objects are in the register, and their kinds are read there. Assumes nothing.
 use Prim.Native.Nat.{ℕ, _+_, _*_, _≤_, _<_}
-use mathlib.Core.Bool.{Bool, true, false, not}
-use mathlib.Core.Path.{_≡_, refl, ap, sym, _∙_, subst}
-use mathlib.Core.List.{List, [], _∷_, map}
+use mathlib.Core.Bool.{true}
+use mathlib.Core.Path.{_≡_, ap, sym, _∙_, subst}
+use mathlib.Core.List.{List}
 use native.Mathlib.Omega.{arith}
-use lib.ListN.{length, getD, take, drop, length-map, length-take}
+use lib.ListN.{length, getD, take, length-map, length-take}
 use lib.Seq.{getD-take, ext-getD}
-use Rattle.words.specs.Lists.{All, any}
 use Rattle.words.specs.Words.{wordsOf}
 use Rattle.words.proofs.Lists.{All-at, map-at}
-use Rattle.net.specs.Net.{Net, GoodArc, takes, inputOf, outputOf}
+use Rattle.net.specs.Net.{GoodArc, takes, inputOf, outputOf}
 use Rattle.net.specs.Held.{netIn}
 use Rattle.net.proofs.IndexLaws.{arc-has}
 use Rattle.replay.specs.Plain.{kindsOf}
@@ -47,6 +46,13 @@ module _ (w b : List ℕ) (l : Layout) (R : Ready w b) (e : l ≡ layoutOf (netI
   pub events-read : getD (wordsOf b) (l .counts + 1) 0 ≡ stateAt b .events
   events-read = ap (λ (v : List ℕ). getD v (l .counts + 1) 0) (ready-words w b R) ∙ get-events (netIn w) (tableIn b) l (stateAt b) placed-at
 
+  -- an object's kind, and its sink
+  pub kind-of-in : (o : ℕ) → o < l .objects → getD (stateAt b .kinds) o 0 < netIn w .kinds
+  kind-of-in o h = All-at (λ (k : ℕ). k < netIn w .kinds) 0 (stateAt b .kinds) (ready-sound w b R .kinds) o (omega (arith, placed-at .kinds-size))
+
+  pub sink-of-in : (o : ℕ) → o < l .objects → netIn w .sink (getD (stateAt b .kinds) o 0) < l .places
+  sink-of-in o h = omega (arith, ready-loaded w b R .sink-in (getD (stateAt b .kinds) o 0) (kind-of-in o h), placed-at .places-are)
+
 module _ (w b : List ℕ) (l : Layout) (a : ℕ) (os : List ℕ) (C : Counted w b l a os) where
   pub few-objects : length os ≤ 8
   few-objects = omega (arith, C .size, ready-loaded w b (C .ready) .arcs-le a (C .act-in))
@@ -73,7 +79,7 @@ module _ (w b : List ℕ) (l : Layout) (a : ℕ) (os : List ℕ) (K : Known w b 
       ∙ get-kind (netIn w) (tableIn b) l (stateAt b) placed (getD os i 0) (object-in i h) ∙ sym (kind-is i h)
 
   pub kind-in : (i : ℕ) → i < length os → getD (kindsOf (stateAt b .kinds) os) i 0 < netIn w .kinds
-  kind-in i h = rw (kind-is i h) (All-at (λ (k : ℕ). k < netIn w .kinds) 0 (stateAt b .kinds) (ready-sound w b (K .counted .ready) .kinds) (getD os i 0) (omega (arith, object-in i h, placed .kinds-size)))
+  kind-in i h = rw (kind-is i h) (kind-of-in w b l (K .counted .ready) (K .counted .lay) (getD os i 0) (object-in i h))
 
   -- the kinds kept, one by one, are the kinds
   pub kinds-kept : (ks : List ℕ) → length ks ≡ 8 → ((j : ℕ) → j < length os → getD ks j 0 ≡ getD (kindsOf (stateAt b .kinds) os) j 0) → take (length os) ks ≡ kindsOf (stateAt b .kinds) os

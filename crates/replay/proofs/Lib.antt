@@ -14,3 +14,4 @@ pub mod Walk
 pub mod Asked
 pub mod Steps
 pub mod Taken
+pub mod Sinks

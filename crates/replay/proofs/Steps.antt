@@ -8,7 +8,7 @@ use native.Mathlib.Numerals.{add-one}
 use lib.ListN.{length, getD, set, drop, drop-of-length-le}
 use lib.Seq.{drop-cons}
 use lib.Dec.{eqb}
-use Rattle.words.specs.Lists.{pick, All, keep, upto}
+use Rattle.words.specs.Lists.{pick, All, keep}
 use Rattle.words.specs.Words.{wordsOf}
 use Rattle.words.proofs.Lists.{All-append, All-of}
 use Rattle.net.specs.Net.{Net, inputOf, outputOf}
@@ -19,13 +19,13 @@ use Rattle.replay.specs.Record.{counts, tableIn}
 use Rattle.replay.specs.Calls.{stateAt}
 use Rattle.replay.specs.Offsets.{layoutOf}
 use Rattle.replay.specs.Ready.{Ready}
-use Rattle.replay.specs.Moves.{placeAt, moveWords, numbersOf, movedState, sunkState}
+use Rattle.replay.specs.Moves.{moveWords, numbersOf, movedState, sunkState}
 use Rattle.replay.specs.declared.layout.Layout.{Layout}
 use Rattle.replay.proofs.Interleave.{All-interleave}
 use Rattle.replay.proofs.Encode.{fired-le, jumps-le, pairs-le}
 use Rattle.replay.proofs.RecordLaws.{Placed, withJumps, withClosing, get-place, get-tail, ready-loaded, ready-sound, ready-words}
 use Rattle.replay.proofs.Asked.{placed-at}
-use Rattle.replay.proofs.Walk.{Walk, legState, walk-turn, act-counter, close-counter}
+use Rattle.replay.proofs.Walk.{Walk, legState, walk-turn, act-counter}
 
 -- the first object of an event, and of the close
 module _ (N : Net) (d : State) where
@@ -70,7 +70,7 @@ module _ (N : Net) (d : State) where
       go true = refl
       go false = refl
 
-  sunk-first : (o : ℕ) (os : List ℕ)
+  pub sunk-first : (o : ℕ) (os : List ℕ)
       → sunkState N (legState N (λ (e : State). withClosing e (suc (e .closing))) d o (N .sink (getD (d .kinds) o 0)) (N .sink (getD (d .kinds) o 0))) os ≡ sunkState N d (o ∷ os)
   sunk-first o os = go (eqb from to)
     where
@@ -119,11 +119,19 @@ module _ (w b : List ℕ) (l : Layout) (R : Ready w b) (e : l ≡ layoutOf (netI
   tail-few : All (λ (x : ℕ). x < 8001025) (counts (stateAt b) ++ stateAt b .pairs)
   tail-few =
       let N = netIn w in let d = stateAt b in let S = ready-sound w b R in let L = ready-loaded w b R in
-      All-append (λ (x : ℕ). x < 8001025) (counts d) (d .pairs)
-          (omega (arith, S .flag), (omega (arith, S .events), (omega (arith, S .closing-le, S .few), All-interleave (λ (x : ℕ). x < 8001025) (d .fired) (d .jumps)
-              (All-of (λ (x : ℕ). x < 8001025) 0 (d .fired) (λ a h. omega (arith, fired-le N L d S a (omega (arith, S .fired-size)))))
-              (All-of (λ (x : ℕ). x < 8001025) 0 (d .jumps) (λ a h. omega (arith, jumps-le N L d S a (omega (arith, S .jumps-size))))))))
-          (All-of (λ (x : ℕ). x < 8001025) 0 (d .pairs) (λ i h. omega (arith, pairs-le N L d S i (omega (arith, S .pairs-size)))))
+      All-append (λ (x : ℕ). x < 8001025) (counts d) (d .pairs) (
+        omega (arith, S .flag),
+        (
+          omega (arith, S .events),
+          (
+            omega (arith, S .closing-le, S .few),
+            All-interleave (λ (x : ℕ). x < 8001025) (d .fired) (d .jumps)
+                (All-of (λ (x : ℕ). x < 8001025) 0 (d .fired) (λ a h. omega (arith, fired-le N L d S a (omega (arith, S .fired-size)))))
+                (All-of (λ (x : ℕ). x < 8001025) 0 (d .jumps) (λ a h. omega (arith, jumps-le N L d S a (omega (arith, S .jumps-size))))),
+          ),
+        ),
+      )
+      (All-of (λ (x : ℕ). x < 8001025) 0 (d .pairs) (λ i h. omega (arith, pairs-le N L d S i (omega (arith, S .pairs-size)))))
 
   pub walk-start : Walk (netIn w) (tableIn b) l 8001025 (stateAt b) (wordsOf b)
   walk-start = record {

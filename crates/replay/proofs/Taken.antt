@@ -1,32 +1,29 @@
 -- What is left of an accepted event once its objects are moved, and the call's answer and bytes. Assumes nothing.
-use Prim.Native.Nat.{ℕ, suc, _+_, _*_, _≤_, _<_}
-use mathlib.Core.Bool.{true, false}
-use mathlib.Core.Path.{_≡_, refl, ap, sym, _∙_}
+use Prim.Native.Nat.{ℕ, suc, _+_, _*_}
+use mathlib.Core.Path.{_≡_, refl, ap, _∙_}
 use mathlib.Core.List.{List, [], _∷_, map}
 use native.Mathlib.Omega.{arith}
 use lib.ListN.{length, getD, set, take, length-set}
-use lib.Seq.{getD-set-other}
-use lib.Dec.{eqb}
 use borrow.Author.Tests.{eq-eqb, ne-eqb}
-use Rattle.words.specs.Lists.{pick, keep}
+use Rattle.words.specs.Lists.{keep}
 use Rattle.net.specs.Net.{Net}
 use Rattle.net.specs.Held.{netIn}
-use Rattle.replay.specs.Plain.{Ask, Event, Leg, Hop, jumped, hops, walked, leg, ending, kindsOf}
-use Rattle.replay.specs.State.{State, bump, tally, hopIndex, afterEvent, afterClose, answerS, acceptS}
+use Rattle.replay.specs.Plain.{Ask, Leg, Hop, jumped, hops, walked, leg, kindsOf}
+use Rattle.replay.specs.State.{State, bump, hopIndex, afterEvent, answerS, acceptS}
 use Rattle.replay.specs.Record.{encode, tableIn}
-use Rattle.replay.specs.Calls.{netAt, stateAt, askCode, askBytes}
+use Rattle.replay.specs.Calls.{stateAt, askCode, askBytes}
 use Rattle.replay.specs.Offsets.{layoutOf}
 use Rattle.replay.specs.Ready.{Ready}
-use Rattle.replay.specs.Moves.{numbersOf, movedState, sunkState, CanAdd}
+use Rattle.replay.specs.Moves.{numbersOf, movedState, CanAdd}
 use Rattle.replay.specs.Answers.{askEvent, Moving}
 use Rattle.replay.specs.declared.layout.Layout.{Layout}
-use Rattle.replay.proofs.Accepted.{Accepted, accepted}
+use Rattle.replay.proofs.Accepted.{accepted}
 use Rattle.replay.proofs.Tally.{length-tally}
 use Rattle.replay.proofs.Encode.{fired-le}
-use Rattle.replay.proofs.RecordLaws.{Placed, placed-same, withEvents, withFired, record-size, get-events, get-fired, put-events, put-fired, ready-loaded, ready-sound}
+use Rattle.replay.proofs.RecordLaws.{Placed, placed-same, withEvents, record-size, get-events, get-fired, put-events, put-fired, ready-loaded, ready-sound}
 use Rattle.replay.proofs.Asked.{placed-at}
 
-length-walked : (ls : List Leg) (ps : List ℕ) → length (walked ps ls) ≡ length ps
+pub length-walked : (ls : List Leg) (ps : List ℕ) → length (walked ps ls) ≡ length ps
 length-walked [] ps = refl
 length-walked (l ∷ ls) ps = length-walked ls (set ps (l .obj) (l .out)) ∙ length-set ps (l .obj) (l .out)
 

@@ -1,8 +1,8 @@
 -- One object moved in a record's numbers: what it asks, how it changes them, and the state that they hold then. Assumes nothing.
 use Prim.Native.Nat.{ℕ, suc, _+_, _*_, _≤_, _<_}
 use mathlib.Core.Bool.{Bool, true, false, not}
-use mathlib.Core.Path.{_≡_, refl, ap, sym, _∙_, subst}
-use mathlib.Core.List.{List, [], _∷_}
+use mathlib.Core.Path.{_≡_, refl, ap, _∙_}
+use mathlib.Core.List.{List}
 use native.Mathlib.Omega.{arith}
 use native.Mathlib.Decide.{ℕ-discrete}
 use lib.Arith.{digits-lt}
@@ -65,15 +65,15 @@ pub record Walk (N : Net) (table : List ℕ) (l : Layout) (b : ℕ) (d : State) 
   pub room : (j : ℕ) → l .counts ≤ j → getD w j 0 < b
 
 module _ (N : Net) (table : List ℕ) (l : Layout) (b : ℕ) (d : State) (w : List ℕ) (W : Walk N table l b d w) where
-  size : length w ≡ l .jumps + l .places * l .places
-  size = ap length (W .words) ∙ record-size N table l d (W .placed)
+  pub walk-size : length w ≡ l .jumps + l .places * l .places
+  walk-size = ap length (W .words) ∙ record-size N table l d (W .placed)
 
   pub walk-few : length w ≤ 7461
   walk-few = rw (W .words) (record-few N table l d (W .placed))
 
   -- a count can be raised
   pub can-add : (j : ℕ) → l .counts ≤ j → j < l .jumps → b ≤ 4294967295 → CanAdd j w
-  can-add j h k r = record { inside = omega (arith, size); room = omega (arith, W .room j h) }
+  can-add j h k r = record { inside = omega (arith, walk-size); room = omega (arith, W .room j h) }
 
   module _ (own o inp : ℕ) (low : l .counts ≤ own) (high : own < l .jumps) (known : o < l .objects) (there : inp < l .places) (few : b ≤ 4294967295) where
     at-in : getD w (placeAt l o) 0 * l .places + inp < l .places * l .places
@@ -87,10 +87,10 @@ module _ (N : Net) (table : List ℕ) (l : Layout) (b : ℕ) (d : State) (w : Li
 
     pub can-move : CanMove l own o inp w
     can-move = record {
-      place = omega (arith, size, below, jumps-high);
+      place = omega (arith, walk-size, below, jumps-high);
       jump = record {
         size = walk-few;
-        pair = record { inside = omega (arith, size, at-in); room = omega (arith, W .room (pairAt l (getD w (placeAt l o) 0) inp) (omega (arith, jumps-high))) };
+        pair = record { inside = omega (arith, walk-size, at-in); room = omega (arith, W .room (pairAt l (getD w (placeAt l o) 0) inp) (omega (arith, jumps-high))) };
         own-can = can-add own low high few;
         apart = λ e. omega arith;
       };

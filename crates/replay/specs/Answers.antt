@@ -1,5 +1,5 @@
 -- The answers to an event and to a close as document 01's numbers, and what an event's tests may rely on.
-use Prim.Native.Nat.{ℕ, _≤_, _<_}
+use Prim.Native.Nat.{ℕ, _<_}
 use mathlib.Core.Bool.{Bool, true, not}
 use mathlib.Core.Path.{_≡_}
 use mathlib.Core.List.{List, [], _∷_}
@@ -8,13 +8,15 @@ use lib.Dec.{leb}
 use Rattle.words.specs.Lists.{any, twice, All}
 use Rattle.net.specs.Net.{Net, takes}
 use Rattle.net.specs.Held.{netIn}
-use Rattle.replay.specs.Plain.{Ask, event, kindsOf}
+use Rattle.replay.specs.Plain.{Ask, event, close, kindsOf}
 use Rattle.replay.specs.Calls.{stateAt}
 use Rattle.replay.specs.Offsets.{layoutOf}
 use Rattle.replay.specs.Ready.{Ready}
 use Rattle.replay.specs.declared.layout.Layout.{Layout}
 use Rattle.replay.specs.declared.event.EventAnswer.{EventAnswer}
 use Rattle.replay.specs.declared.event.EventAnswer.the-variants.{Taken, Closed, Full, Activity, Number, Object, Kind, TwoOfKind}
+use Rattle.replay.specs.declared.close.CloseAnswer.{CloseAnswer}
+use Rattle.replay.specs.declared.close.CloseAnswer.the-variants.{Taken as Shut, AlreadyClosed}
 
 abbrev pub eventCode : EventAnswer → ℕ
 eventCode Taken = 0
@@ -26,9 +28,16 @@ eventCode Object = 25
 eventCode Kind = 26
 eventCode TwoOfKind = 27
 
--- an event that is put to a trail
+abbrev pub closeCode : CloseAnswer → ℕ
+closeCode Shut = 0
+closeCode AlreadyClosed = 31
+
+-- an event and a close that are put to a trail
 abbrev pub askEvent : ℕ → List ℕ → Ask
 askEvent a os = event (record { act = a; objs = os })
+
+abbrev pub askClose : Ask
+askClose = close
 
 -- 25 to 27: the tests of an event's objects
 abbrev pub objectTests : Net → List ℕ → ℕ → List ℕ → List (Bool × ℕ)

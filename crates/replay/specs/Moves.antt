@@ -1,7 +1,7 @@
 -- What moving objects does to a record, as a list of four-byte numbers and as a state, and what it asks of the record.
 use Prim.Native.Nat.{ℕ, _+_, _*_, _≤_, _<_}
 use mathlib.Core.Path.{_≡_}
-use mathlib.Core.List.{List, [], _∷_, _++_, map}
+use mathlib.Core.List.{List, _++_, map}
 use lib.ListN.{length, getD, set}
 use lib.Dec.{eqb}
 use Rattle.words.specs.Lists.{pick, keep}

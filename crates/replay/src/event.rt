@@ -57,7 +57,14 @@ fn unknown(objects: usize, objs: &[u32]) -> bool
 }
 
 // 26: an object is of a kind that the activity does not take. Where there is none, the kinds of all are kept.
-fn foreign(rec: &[u8], t: &[u32; 1684], lay: Layout, act: usize, objs: &[u32], kinds: &mut [usize; 8]) -> bool
+fn foreign(
+    rec: &[u8],
+    t: &[u32; 1684],
+    lay: Layout,
+    act: usize,
+    objs: &[u32],
+    kinds: &mut [usize; 8],
+) -> bool
     requires { ⌜ Known (now t) (now rec) lay act (now objs) ⌝ }
     requires { ⌜ length (now kinds) ≡ 8 ⌝ }
     ensures { λ r. ⌜ (r ≡ any (λ (k : ℕ). not (takes (netIn (now (t .entry))) act k)) (kindsOf (stateAt (now (rec .entry)) .kinds) (now (objs .entry)))) × (r ≡ false → take (length (now (objs .entry))) (now (kinds .exit)) ≡ kindsOf (stateAt (now (rec .entry)) .kinds) (now (objs .entry))) ⌝ }
@@ -96,7 +103,14 @@ fn two_of_kind(kinds: &[usize; 8], n: usize) -> bool
 }
 
 // 25 to 27: the tests of an event's objects. Where none applies, their kinds are kept.
-fn refuse_objects(rec: &[u8], t: &[u32; 1684], lay: Layout, act: usize, objs: &[u32], kinds: &mut [usize; 8]) -> EventAnswer
+fn refuse_objects(
+    rec: &[u8],
+    t: &[u32; 1684],
+    lay: Layout,
+    act: usize,
+    objs: &[u32],
+    kinds: &mut [usize; 8],
+) -> EventAnswer
     requires { ⌜ Counted (now t) (now rec) lay act (now objs) ⌝ }
     requires { ⌜ length (now kinds) ≡ 8 ⌝ }
     ensures { λ r. ⌜ (eventCode r ≡ first (objectTests (netIn (now (t .entry))) (stateAt (now (rec .entry)) .kinds) act (now (objs .entry)))) × (eventCode r ≡ 0 → take (length (now (objs .entry))) (now (kinds .exit)) ≡ kindsOf (stateAt (now (rec .entry)) .kinds) (now (objs .entry))) ⌝ }
@@ -114,7 +128,14 @@ fn refuse_objects(rec: &[u8], t: &[u32; 1684], lay: Layout, act: usize, objs: &[
 }
 
 // 21 to 27: the first that applies. Where none does, the kinds of the objects are kept.
-fn refuse(rec: &[u8], t: &[u32; 1684], lay: Layout, act: usize, objs: &[u32], kinds: &mut [usize; 8]) -> EventAnswer
+fn refuse(
+    rec: &[u8],
+    t: &[u32; 1684],
+    lay: Layout,
+    act: usize,
+    objs: &[u32],
+    kinds: &mut [usize; 8],
+) -> EventAnswer
     requires { ⌜ Ready (now t) (now rec) ⌝ }
     requires { ⌜ (lay ≡ layoutOf (netIn (now t)) (now rec)) × (length (now kinds) ≡ 8) ⌝ }
     ensures { λ r. ⌜ (eventCode r ≡ answerS (netIn (now (t .entry))) (stateAt (now (rec .entry))) (askEvent act (now (objs .entry)))) × (eventCode r ≡ 0 → take (length (now (objs .entry))) (now (kinds .exit)) ≡ kindsOf (stateAt (now (rec .entry)) .kinds) (now (objs .entry))) ⌝ }
@@ -135,7 +156,14 @@ fn refuse(rec: &[u8], t: &[u32; 1684], lay: Layout, act: usize, objs: &[u32], ki
 }
 
 // Every object of the event jumps where it has to, and is moved.
-fn step_objects(rec: &mut [u8], t: &[u32; 1684], lay: Layout, act: usize, objs: &[u32], kinds: &[usize; 8])
+fn step_objects(
+    rec: &mut [u8],
+    t: &[u32; 1684],
+    lay: Layout,
+    act: usize,
+    objs: &[u32],
+    kinds: &[usize; 8],
+)
     requires { ⌜ Moving (now t) (now rec) lay act (now objs) (now kinds) ⌝ }
     ensures { λ _. ⌜ wordsOf (now (rec .exit)) ≡ numbersOf (tableIn (now (rec .entry))) (movedState (netIn (now (t .entry))) (stateAt (now (rec .entry))) act (now (objs .entry))) ⌝ }
 {
@@ -144,13 +172,27 @@ fn step_objects(rec: &mut [u8], t: &[u32; 1684], lay: Layout, act: usize, objs: 
         let k = kinds[i];
         let inp = net::look::input(t, act, k);
         let out = net::look::output(t, act, k) as u32;
-        move_object(rec, lay, lay.counts + (4 + 2 * act), objs[i] as usize, inp, out);
+        move_object(
+            rec,
+            lay,
+            lay.counts + (4 + 2 * act),
+            objs[i] as usize,
+            inp,
+            out,
+        );
         i += 1;
     }
 }
 
 // An event to which none of 21 to 27 applies is carried out and counted.
-fn take_event(rec: &mut [u8], t: &[u32; 1684], lay: Layout, act: usize, objs: &[u32], kinds: &[usize; 8])
+fn take_event(
+    rec: &mut [u8],
+    t: &[u32; 1684],
+    lay: Layout,
+    act: usize,
+    objs: &[u32],
+    kinds: &[usize; 8],
+)
     requires { ⌜ Moving (now t) (now rec) lay act (now objs) (now kinds) ⌝ }
     ensures { λ _. ⌜ wordsOf (now (rec .exit)) ≡ numbersOf (tableIn (now (rec .entry))) (afterEvent (netIn (now (t .entry))) (stateAt (now (rec .entry))) (record { act = act; objs = now (objs .entry) })) ⌝ }
 {

@@ -1,5 +1,5 @@
-use Prim.Native.Nat.{ℕ, _≤_, _<_}
-use mathlib.Core.Path.{_≡_, refl, sym, ap, _∙_}
+use Prim.Native.Nat.{ℕ, _<_}
+use mathlib.Core.Path.{_≡_, sym, ap, _∙_}
 use mathlib.Core.List.{List, [], _∷_}
 use native.Mathlib.Omega.{arith}
 use types.Run.{OneOf}
@@ -16,11 +16,6 @@ use Rattle.replay.proofs.RecordLaws.{ready-contents, ready-bytes}
 use borrow.Author.Needs.{needs}
 use Rattle.replay.proofs.event.event.Statement.{statement}
 use Rattle.replay.proofs.event.event.Tie as tie
-use Rattle.replay.proofs.event.event.Reads as reads
-use Rattle.replay.proofs.event.event.Lts as lts
-use Rattle.replay.proofs.event.refuse.Reads as refuse-reads
-use Rattle.replay.proofs.event.take_event.Reads as take-event-reads
-use Rattle.replay.proofs.layout.read_layout.Reads as read-layout-reads
 
 -- the tests refused nothing
 told : (c : tie.After-enum-told) → eventCode (c .before .before .refuse .result) ≡ 0
@@ -42,38 +37,30 @@ not-taken Object k e = omega arith
 not-taken Kind k e = omega arith
 not-taken TwoOfKind k e = omega arith
 
--- src/event.rt:167:9
 read-layout-requires : tie.Need-read-layout-requires
 read-layout-requires c κs = (c .before .before .before .pre .held, ready-contents _ _ (c .before .before .before .pre))
 
--- src/event.rt:169:9
 refuse-requires : tie.Need-refuse-requires
 refuse-requires c κs = search needs
 
--- src/event.rt:172:24
 enum-told : tie.Need-enum-told
 enum-told c = search needs
 
--- src/event.rt:172:13
 take-event-requires : tie.Need-take-event-requires
 take-event-requires c κs = let s = c .before .before .before .before .before .before .before .before .before .before .before in
     can-take _ _ _ _ _ _ (s .pre) (c .before .before .before .before .before .before .before .read-layout .ensures) (sym (c .before .before .before .before .refuse .ensures .0) ∙ told (c .before .before)) (c .before .before .before .before .refuse .ensures .1 (told (c .before .before)))
 
--- src/event.rt:163:1
 same-length : tie.Need-same-length
 same-length c = search needs
 
--- src/event.rt:163:1
 returns : tie.Need-returns
 returns c = let s = c .before .before .before .before .before .before .before .before .before .before .before .before .before .before in let q = askEvent (s .args .act) (s .args .objs .now) in
     let z : askCode (s .args .rec .now) q ≡ 0 = sym (code-is _ _ (s .pre) q) ∙ sym (c .before .before .before .before .before .before .before .refuse .ensures .0) ∙ told (c .before .before .before .before .before) in
     (sym z, bytes-taken _ _ (s .pre) q _ z (ready-bytes _ _ (s .pre) _ _ (c .before .before .take-event .ensures) (omega arith) (λ i. omega (arith, c .before .before .before .before .before .before .before .before .before .before .before .before .before .slice-known .given i)) (λ i. omega (arith, c .slice-known2 .given i))))
 
--- src/event.rt:163:1
 same-length-2 : tie.Need-same-length-2
 same-length-2 c = search needs
 
--- src/event.rt:163:1
 returns-2 : tie.Need-returns-2
 returns-2 c = let s = c .before .before .before .before .before .before .before .before in let q = askEvent (s .args .act) (s .args .objs .now) in
     let e : eventCode (c .before .refuse .result) ≡ askCode (s .args .rec .now) q = c .before .refuse .ensures .0 ∙ code-is _ _ (s .pre) q in

@@ -1,8 +1,7 @@
 -- `refuse_objects` meets its contract: each test that is passed says that none of the objects fails it. Assumes nothing.
 use Prim.Native.Nat.{ℕ, _<_}
-use mathlib.Core.Bool.{Bool, true, false, not}
-use mathlib.Core.Path.{_≡_, refl, sym, ap, _∙_}
-use mathlib.Core.List.{List}
+use mathlib.Core.Bool.{false, not}
+use mathlib.Core.Path.{_≡_, sym, ap, _∙_}
 use native.Mathlib.Omega.{arith}
 use lib.ListN.{length}
 use lib.Dec.{leb}
@@ -18,11 +17,6 @@ use Rattle.replay.proofs.Asked.{placed-at, few-objects, kinds-length}
 use borrow.Author.Needs.{needs}
 use Rattle.replay.proofs.event.refuse_objects.Statement.{statement}
 use Rattle.replay.proofs.event.refuse_objects.Tie as tie
-use Rattle.replay.proofs.event.refuse_objects.Reads as reads
-use Rattle.replay.proofs.event.refuse_objects.Lts as lts
-use Rattle.replay.proofs.event.foreign.Reads as foreign-reads
-use Rattle.replay.proofs.event.two_of_kind.Reads as two-of-kind-reads
-use Rattle.replay.proofs.event.unknown.Reads as unknown-reads
 
 t5 : (c : tie.After-unknown) → c .unknown .result ≡ any (λ (o : ℕ). leb (length (stateAt (c .before .before .before .args .rec .now) .kinds)) o) (c .before .before .before .args .objs .now)
 t5 c = let s = c .before .before .before in c .unknown .ensures ∙ ap (λ (n : ℕ). any (λ (o : ℕ). leb n o) (s .args .objs .now)) (sym (placed-at _ _ _ (s .pre .0 .ready) (s .pre .0 .lay) .kinds-size))
@@ -39,31 +33,24 @@ t6-not c = sym (c .before .foreign .ensures .0) ∙ c .if2 .left
 t7 : (c : tie.After-two-of-kind) → c .two-of-kind .result ≡ twice (kindsOf (stateAt (c .before .before .before .before .before .before .before .before .before .args .rec .now) .kinds) (c .before .before .before .before .before .before .before .before .before .args .objs .now))
 t7 c = c .two-of-kind .ensures ∙ ap twice (c .before .before .before .foreign .ensures .1 (c .before .before .if2 .left))
 
--- src/event.rt:104:8
 unknown-requires : tie.Need-unknown-requires
 unknown-requires c κs = search needs
 
--- src/event.rt:105:9
 returns : tie.Need-returns
 returns c = (rw (← t5 (c .before), c .if1 .taken), λ q. absurd (omega arith))
 
--- src/event.rt:107:8
 foreign-requires : tie.Need-foreign-requires
 foreign-requires c κs = (known (c .before), c .before .before .before .before .before .pre .1)
 
--- src/event.rt:108:9
 returns-2 : tie.Need-returns-2
 returns-2 c = (rw (t5-not (c .before .before .before), ← c .before .foreign .ensures .0, c .if2 .taken), λ q. absurd (omega arith))
 
--- src/event.rt:110:8
 two-of-kind-requires : tie.Need-two-of-kind-requires
 two-of-kind-requires c κs = let s = c .before .before .before .before .before .before .before .before in (few-objects _ _ _ _ _ (s .pre .0), ap length (c .before .before .foreign .ensures .1 (c .before .if2 .left)) ∙ kinds-length _ _ _ _ _ (known (c .before .before .before .before)))
 
--- src/event.rt:111:9
 returns-3 : tie.Need-returns-3
 returns-3 c = (rw (t5-not (c .before .before .before .before .before .before), t6-not (c .before .before .before), ← t7 (c .before), c .if3 .taken), λ q. absurd (omega arith))
 
--- src/event.rt:99:1
 returns-4 : tie.Need-returns-4
 returns-4 c = (rw (t5-not (c .before .before .before .before .before .before), t6-not (c .before .before .before), ← t7 (c .before), c .if3 .left), λ q. c .before .before .before .before .foreign .ensures .1 (c .before .before .before .if2 .left))
 

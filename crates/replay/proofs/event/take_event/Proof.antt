@@ -1,5 +1,5 @@
 -- `take_event` meets its contract: once the objects are moved, the events and FIRED of the activity are one more. Assumes nothing.
-use mathlib.Core.Path.{_≡_, ap, _∙_}
+use mathlib.Core.Path.{ap, _∙_}
 use mathlib.Core.List.{List}
 use Prim.Native.Nat.{ℕ, _+_, _*_}
 use native.Mathlib.Omega.{arith}
@@ -9,44 +9,31 @@ use Rattle.replay.proofs.Taken.{can-events, can-fired, event-counted}
 use borrow.Author.Needs.{needs}
 use Rattle.replay.proofs.event.take_event.Statement.{statement}
 use Rattle.replay.proofs.event.take_event.Tie as tie
-use Rattle.replay.proofs.event.take_event.Reads as reads
-use Rattle.replay.proofs.event.take_event.Lts as lts
-use Rattle.replay.proofs.event.step_objects.Reads as step-objects-reads
-use Rattle.replay.proofs.moves.add_one.Reads as add-one-reads
 
--- src/event.rt:157:5
 step-objects-requires : tie.Need-step-objects-requires
 step-objects-requires c κs = search needs
 
--- src/event.rt:158:18
 add-add-one : tie.Need-add-add-one
 add-add-one c = let s = c .before .before .before .before .before .before .before .before in omega (arith, counts-few _ _ _ (s .pre .known .counted .ready) (s .pre .known .counted .lay), s .pre .known .counted .act-in)
 
--- src/event.rt:158:5
 add-one-requires : tie.Need-add-one-requires
 add-one-requires c κs = rw (c .before .before .before .before .step-objects .ensures) (can-events _ _ _ _ _ _ (c .before .before .before .before .before .before .before .before .pre))
 
--- src/event.rt:159:36
 mul-add-one : tie.Need-mul-add-one
 mul-add-one c = let s = c .before .before .before .before .before .before .before .before .before .before .before .before in omega (arith, counts-few _ _ _ (s .pre .known .counted .ready) (s .pre .known .counted .lay), s .pre .known .counted .act-in)
 
--- src/event.rt:159:32
 add-add-one-2 : tie.Need-add-add-one-2
 add-add-one-2 c = let s = c .before .before .before .before .before .before .before .before .before .before .before .before in omega (arith, counts-few _ _ _ (s .pre .known .counted .ready) (s .pre .known .counted .lay), s .pre .known .counted .act-in)
 
--- src/event.rt:159:18
 add-add-one-3 : tie.Need-add-add-one-3
 add-add-one-3 c = let s = c .before .before .before .before .before .before .before .before .before .before .before .before .before in omega (arith, counts-few _ _ _ (s .pre .known .counted .ready) (s .pre .known .counted .lay), s .pre .known .counted .act-in)
 
--- src/event.rt:159:5
 add-one-requires-2 : tie.Need-add-one-requires-2
 add-one-requires-2 c κs = rw (c .before .before .before .before .add-one .ensures, c .before .before .before .before .before .before .before .before .before .step-objects .ensures) (can-fired _ _ _ _ _ _ (c .before .before .before .before .before .before .before .before .before .before .before .before .before .pre))
 
--- src/event.rt:153:1
 same-length : tie.Need-same-length
 same-length c = search needs
 
--- src/event.rt:153:1
 returns : tie.Need-returns
 returns c =
     let s = c .before .before .before .before .before .before .before .before .before .before .before .before .before .before .before .before .args in

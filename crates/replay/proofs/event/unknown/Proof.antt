@@ -10,8 +10,6 @@ use Rattle.words.specs.Lists.{any}
 use Rattle.net.proofs.Scan.{any-turn, any-found, any-end}
 use Rattle.replay.proofs.event.unknown.Statement.{statement}
 use Rattle.replay.proofs.event.unknown.Tie as tie
-use Rattle.replay.proofs.event.unknown.Reads as reads
-use Rattle.replay.proofs.event.unknown.Lts as lts
 
 abbrev Inv-loop : tie.InvT-loop
 Inv-loop objects objs i₀ i = (i ≤ length objs) × (any (λ (o : ℕ). leb objects o) (drop i objs) ≡ any (λ (o : ℕ). leb objects o) objs)
@@ -19,39 +17,30 @@ Inv-loop objects objs i₀ i = (i ≤ length objs) × (any (λ (o : ℕ). leb ob
 abbrev μ-loop : tie.MeasureT-loop
 μ-loop objects objs i₀ i = length objs - i
 
--- src/event.rt:50:5
 loop-holds : tie.Need-loop-holds Inv-loop μ-loop
 loop-holds c = (omega arith, refl)
 
--- src/event.rt:51:24
 mul-if1 : tie.Need-mul-if1 Inv-loop μ-loop
 mul-if1 c = search needs
 
--- src/event.rt:51:24
 shared-slice-read-if1 : tie.Need-shared-slice-read-if1 Inv-loop μ-loop
 shared-slice-read-if1 c = search needs
 
--- src/event.rt:51:24
 cast-if1 : tie.Need-cast-if1 Inv-loop μ-loop
 cast-if1 c = omega (arith, c .shared-slice-known .given (c .before .before .loop .i))
 
--- src/event.rt:52:13
 returns : tie.Need-returns Inv-loop μ-loop
 returns c = let l = c .before .before .before .loop in any-found (λ (o : ℕ). leb (c .before .before .before .before .args .objects) o) _ 0 (l .i) (c .before .before .loop-test .taken) (le-leb _ _ (c .if1 .taken)) ∙ l .inv .1
 
--- src/event.rt:54:9
 add-i : tie.Need-add-i Inv-loop μ-loop
 add-i c = search needs
 
--- src/event.rt:50:5
 loop-less : tie.Need-loop-less Inv-loop μ-loop
 loop-less c = search needs
 
--- src/event.rt:50:5
 loop-again : tie.Need-loop-again Inv-loop μ-loop
 loop-again c = let l = c .before .before .before .loop in (omega arith, any-turn (λ (o : ℕ). leb (c .before .before .before .before .args .objects) o) _ 0 (l .i) (c .before .before .loop-test .taken) (lt-leb _ _ (c .if1 .left)) ∙ l .inv .1)
 
--- src/event.rt:46:1
 returns-2 : tie.Need-returns-2 Inv-loop μ-loop
 returns-2 c = let l = c .before .loop in any-end (λ (o : ℕ). leb (c .before .before .args .objects) o) _ 0 (l .i) (c .loop-test .left) ∙ l .inv .1
 

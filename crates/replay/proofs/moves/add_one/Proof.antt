@@ -3,28 +3,19 @@ use native.Mathlib.Numerals.{add-one}
 use borrow.Author.Needs.{needs}
 use Rattle.replay.proofs.moves.add_one.Statement.{statement}
 use Rattle.replay.proofs.moves.add_one.Tie as tie
-use Rattle.replay.proofs.moves.add_one.Reads as reads
-use Rattle.replay.proofs.moves.add_one.Lts as lts
-use Rattle.words.proofs.get_word.Reads as get-word-reads
-use Rattle.words.proofs.put_word.Reads as put-word-reads
 
--- src/moves.rt:15:9
 get-word-requires : tie.Need-get-word-requires
 get-word-requires c κs = search needs
 
--- src/moves.rt:16:29
 add-put-word : tie.Need-add-put-word
 add-put-word c = search needs
 
--- src/moves.rt:16:5
 put-word-requires : tie.Need-put-word-requires
 put-word-requires c κs = search needs
 
--- src/moves.rt:11:1
 same-length : tie.Need-same-length
 same-length c = search needs
 
--- src/moves.rt:11:1
 returns : tie.Need-returns
 returns c = cc (add-one (c .before .before .before .before .get-word .result), c .before .before .put-word .ensures .words)
 

@@ -6,41 +6,30 @@ use Rattle.replay.specs.Moves.{jumpWords}
 use borrow.Author.Needs.{needs}
 use Rattle.replay.proofs.moves.count_jump.Statement.{statement}
 use Rattle.replay.proofs.moves.count_jump.Tie as tie
-use Rattle.replay.proofs.moves.count_jump.Reads as reads
-use Rattle.replay.proofs.moves.count_jump.Lts as lts
-use Rattle.replay.proofs.moves.add_one.Reads as add-one-reads
 
--- src/moves.rt:25:35
 mul-add-one : tie.Need-mul-add-one
 mul-add-one c = search needs
 
--- src/moves.rt:25:35
 add-add-one : tie.Need-add-add-one
 add-add-one c = search needs
 
--- src/moves.rt:25:22
 add-add-one-2 : tie.Need-add-add-one-2
 add-add-one-2 c = search needs
 
--- src/moves.rt:25:9
 add-one-requires : tie.Need-add-one-requires
 add-one-requires c κs = search needs
 
--- src/moves.rt:26:9
 add-one-requires-2 : tie.Need-add-one-requires-2
 add-one-requires-2 c κs = let s = c .before .before .before .before .before .before .before .before .before in
     rw (c .before .before .before .add-one .ensures) (record { inside = rw length-set (s .pre .own-can .inside); room = rw (getD-set-other _ _ _ _ _ (s .pre .apart)) (s .pre .own-can .room) })
 
--- src/moves.rt:20:1
 same-length : tie.Need-same-length
 same-length c = search needs
 
--- src/moves.rt:20:1
 returns : tie.Need-returns
 unfolding jumpWords
 returns c = rw (ne-eqb _ _ (c .before .before .before .before .before .before .before .before .before .before .if1 .taken)) cc
 
--- src/moves.rt:20:1
 returns-2 : tie.Need-returns-2
 unfolding jumpWords
 returns-2 c = rw (eq-eqb _ _ (c .if1 .left))

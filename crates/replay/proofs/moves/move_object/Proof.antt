@@ -4,37 +4,25 @@ use Rattle.replay.proofs.Walk.{length-jump}
 use borrow.Author.Needs.{needs}
 use Rattle.replay.proofs.moves.move_object.Statement.{statement}
 use Rattle.replay.proofs.moves.move_object.Tie as tie
-use Rattle.replay.proofs.moves.move_object.Reads as reads
-use Rattle.replay.proofs.moves.move_object.Lts as lts
-use Rattle.replay.proofs.moves.count_jump.Reads as count-jump-reads
-use Rattle.words.proofs.get_word.Reads as get-word-reads
-use Rattle.words.proofs.put_word.Reads as put-word-reads
 
--- src/moves.rt:35:13
 add-p : tie.Need-add-p
 add-p c = search needs
 
--- src/moves.rt:36:14
 get-word-requires : tie.Need-get-word-requires
 get-word-requires c κs = search needs
 
--- src/moves.rt:36:14
 cast-at : tie.Need-cast-at
 cast-at c = search needs
 
--- src/moves.rt:37:5
 count-jump-requires : tie.Need-count-jump-requires
 count-jump-requires c κs = let s = c .before .before .before .before .before in rw (c .before .get-word .ensures) (s .pre .jump)
 
--- src/moves.rt:38:5
 put-word-requires : tie.Need-put-word-requires
 put-word-requires c κs = let s = c .before .before .before .before .before .before .before .before .before in rw (c .before .before .before .count-jump .ensures, length-jump) (s .pre .place)
 
--- src/moves.rt:31:1
 same-length : tie.Need-same-length
 same-length c = search needs
 
--- src/moves.rt:31:1
 returns : tie.Need-returns
 unfolding moveWords
 returns c = cc (c .before .before .put-word .ensures .words)
