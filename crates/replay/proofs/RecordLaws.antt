@@ -60,6 +60,27 @@ pub record Placed (N : Net) (table : List ℕ) (l : Layout) (d : State) : Type 0
   pub acts-few : N .acts ≤ 64
   pub places-few : l .places ≤ 64
 
+-- it is the layout also of a state whose parts are as large
+pub placed-same : (N : Net) (table : List ℕ) (l : Layout) (d e : State) → Placed N table l d
+    → length (e .kinds) ≡ length (d .kinds) → length (e .places) ≡ length (d .places) → length (e .fired) ≡ length (d .fired) → length (e .jumps) ≡ length (d .jumps) → length (e .pairs) ≡ length (d .pairs)
+    → Placed N table l e
+placed-same N table l d e P k p f j q = record {
+  register-at = P .register-at;
+  positions-at = P .positions-at;
+  counts-at = P .counts-at;
+  jumps-at = P .jumps-at;
+  places-are = P .places-are;
+  kinds-size = k ∙ P .kinds-size;
+  places-size = p ∙ P .places-size;
+  fired-size = f ∙ P .fired-size;
+  jumps-size = j ∙ P .jumps-size;
+  pairs-size = q ∙ P .pairs-size;
+  table-few = P .table-few;
+  objects-few = P .objects-few;
+  acts-few = P .acts-few;
+  places-few = P .places-few;
+}
+
 -- past the first of two lists
 past : (xs ys : List ℕ) (m i : ℕ) → m ≡ length xs + i → getD (xs ++ ys) m 0 ≡ getD ys i 0
 past xs ys m i e = rw e (getD-append-add xs ys i 0)
@@ -114,6 +135,13 @@ module _ (table ks ps cs js : List ℕ) where
       past head r0 m (length (wordsOf table) + (length ks + (length ps + (length cs + o)))) (omega arith) ∙ past (wordsOf table) r1 _ (length ks + (length ps + (length cs + o))) refl
       ∙ past ks r2 _ (length ps + (length cs + o)) refl ∙ past ps r3 _ (length cs + o) refl ∙ past cs js _ o refl
 
+  at-r3 : (m o : ℕ) → m ≡ 10 + length (wordsOf table) + length ks + length ps + o → getD (four table ks ps cs js) m 0 ≡ getD r3 o 0
+  at-r3 m o e =
+      past head r0 m (length (wordsOf table) + (length ks + (length ps + o))) (omega arith)
+      ∙ past (wordsOf table) r1 _ (length ks + (length ps + o)) refl
+      ∙ past ks r2 _ (length ps + o) refl
+      ∙ past ps r3 _ o refl
+
   set-ps : (m o v : ℕ) → m ≡ 10 + length (wordsOf table) + length ks + o → o < length ps → set (four table ks ps cs js) m v ≡ four table ks (set ps o v) cs js
   set-ps m o v e h = rw (length-set ps o v)
       (set-past head r0 m (length (wordsOf table) + (length ks + o)) v (omega arith)
@@ -158,6 +186,10 @@ module _ (N : Net) (table : List ℕ) (l : Layout) (d : State) (P : Placed N tab
 
   get-count : (i : ℕ) → i < 3 + 2 * N .acts → getD (recordWords table d) (l .counts + i) 0 ≡ getD (counts d) i 0
   get-count i h = at-cs table (d .kinds) (d .places) (counts d) (d .pairs) (l .counts + i) i (omega (arith, P .register-at, P .positions-at, P .counts-at, P .kinds-size, P .places-size)) (omega (arith, counts-length))
+
+  -- all counts, those of the pairs behind the others
+  pub get-tail : (i : ℕ) → getD (recordWords table d) (l .counts + i) 0 ≡ getD (counts d ++ d .pairs) i 0
+  get-tail i = at-r3 table (d .kinds) (d .places) (counts d) (d .pairs) (l .counts + i) i (omega (arith, P .register-at, P .positions-at, P .counts-at, P .kinds-size, P .places-size))
 
   pub get-closed : getD (recordWords table d) (l .counts) 0 ≡ d .closed
   get-closed = let z : l .counts ≡ l .counts + 0 = omega arith in ap (λ (i : ℕ). getD (recordWords table d) i 0) z ∙ get-count 0 (omega arith)
