@@ -1,16 +1,11 @@
-pub mod Answers
 pub mod Calls
 pub mod Claims
 pub mod Counts
-pub mod Moves
 pub mod Offsets
 pub mod Permitted
 pub mod Plain
-pub mod Reads
 pub mod Ready
 pub mod Record
 pub mod Rows
 pub mod Sound
-pub mod StartAnswers
-pub mod Startable
 pub mod State

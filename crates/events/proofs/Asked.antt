@@ -1,0 +1,115 @@
+-- An event put to a record: the layout fits, its objects are in the register, and their kinds are read there. Assumes nothing.
+use Prim.Native.Nat.{ℕ, _+_, _*_, _≤_, _<_}
+use mathlib.Core.Bool.{true}
+use mathlib.Core.Path.{_≡_, ap, sym, _∙_, subst}
+use mathlib.Core.List.{List}
+use native.Mathlib.Omega.{arith}
+use lib.ListN.{length, getD, take, length-map, length-take}
+use lib.Seq.{getD-take, ext-getD}
+use Rattle.words.specs.Words.{wordsOf}
+use Rattle.words.proofs.Lists.{All-at, map-at}
+use Rattle.net.specs.Net.{GoodArc, takes, inputOf, outputOf}
+use Rattle.net.specs.Held.{netIn}
+use Rattle.net.proofs.IndexLaws.{arc-has}
+use Rattle.replay.specs.Plain.{kindsOf}
+use Rattle.replay.specs.Record.{tableIn}
+use Rattle.replay.specs.Calls.{stateAt}
+use Rattle.replay.specs.Offsets.{layoutOf}
+use Rattle.replay.specs.Ready.{Ready}
+use Rattle.events.specs.Answers.{Counted, Known, Moving}
+use Rattle.replay.specs.declared.layout.Layout.{Layout}
+use Rattle.replay.proofs.RecordLaws.{Placed, record-size, record-few, get-kind, get-closed, get-events, ready-loaded, ready-sound, ready-words, ready-placed}
+
+-- the layout, and how many numbers there are
+module _ (w b : List ℕ) (l : Layout) (R : Ready w b) (e : l ≡ layoutOf (netIn w) b) where
+  pub placed-at : Placed (netIn w) (tableIn b) l (stateAt b)
+  placed-at = subst (λ (l : Layout). Placed (netIn w) (tableIn b) l (stateAt b)) (sym e) (ready-placed w b R)
+
+  pub words-size : length (wordsOf b) ≡ l .jumps + l .places * l .places
+  words-size = ap length (ready-words w b R) ∙ record-size (netIn w) (tableIn b) l (stateAt b) placed-at
+
+  pub words-few : length (wordsOf b) ≤ 7461
+  words-few = rw (ready-words w b R) (record-few (netIn w) (tableIn b) l (stateAt b) placed-at)
+
+  pub count-in : (i : ℕ) → i < 3 + 2 * netIn w .acts → l .counts + i < length (wordsOf b)
+  count-in i h = omega (arith, words-size, placed-at .jumps-at)
+
+  pub counts-few : l .counts + (3 + 2 * netIn w .acts) ≤ 7461
+  counts-few = omega (arith, words-size, words-few, placed-at .jumps-at)
+
+  pub closed-in : l .counts < length (wordsOf b)
+  closed-in = omega (arith, words-size, placed-at .jumps-at)
+
+  pub closed-read : getD (wordsOf b) (l .counts) 0 ≡ stateAt b .closed
+  closed-read = ap (λ (v : List ℕ). getD v (l .counts) 0) (ready-words w b R) ∙ get-closed (netIn w) (tableIn b) l (stateAt b) placed-at
+
+  pub events-read : getD (wordsOf b) (l .counts + 1) 0 ≡ stateAt b .events
+  events-read = ap (λ (v : List ℕ). getD v (l .counts + 1) 0) (ready-words w b R) ∙ get-events (netIn w) (tableIn b) l (stateAt b) placed-at
+
+  -- an object's kind, and its sink
+  pub kind-of-in : (o : ℕ) → o < l .objects → getD (stateAt b .kinds) o 0 < netIn w .kinds
+  kind-of-in o h = All-at (λ (k : ℕ). k < netIn w .kinds) 0 (stateAt b .kinds) (ready-sound w b R .kinds) o (omega (arith, placed-at .kinds-size))
+
+  pub sink-of-in : (o : ℕ) → o < l .objects → netIn w .sink (getD (stateAt b .kinds) o 0) < l .places
+  sink-of-in o h = omega (arith, ready-loaded w b R .sink-in (getD (stateAt b .kinds) o 0) (kind-of-in o h), placed-at .places-are)
+
+module _ (w b : List ℕ) (l : Layout) (a : ℕ) (os : List ℕ) (C : Counted w b l a os) where
+  pub few-objects : length os ≤ 8
+  few-objects = omega (arith, C .size, ready-loaded w b (C .ready) .arcs-le a (C .act-in))
+
+module _ (w b : List ℕ) (l : Layout) (a : ℕ) (os : List ℕ) (K : Known w b l a os) where
+  placed : Placed (netIn w) (tableIn b) l (stateAt b)
+  placed = placed-at w b l (K .counted .ready) (K .counted .lay)
+
+  pub object-in : (i : ℕ) → i < length os → getD os i 0 < l .objects
+  object-in i h = omega (arith, All-at (λ (o : ℕ). o < length (stateAt b .kinds)) 0 os (K .known) i h, placed .kinds-size)
+
+  pub read-in : (i : ℕ) → i < length os → l .register + getD os i 0 < length (wordsOf b)
+  read-in i h = omega (arith, object-in i h, words-size w b l (K .counted .ready) (K .counted .lay), placed .positions-at, placed .counts-at, placed .jumps-at)
+
+  pub kinds-length : length (kindsOf (stateAt b .kinds) os) ≡ length os
+  kinds-length = length-map os (λ (o : ℕ). getD (stateAt b .kinds) o 0)
+
+  pub kind-is : (i : ℕ) → i < length os → getD (kindsOf (stateAt b .kinds) os) i 0 ≡ getD (stateAt b .kinds) (getD os i 0) 0
+  kind-is i h = map-at (λ (o : ℕ). getD (stateAt b .kinds) o 0) 0 0 os i h
+
+  pub kind-read : (i : ℕ) → i < length os → getD (wordsOf b) (l .register + getD os i 0) 0 ≡ getD (kindsOf (stateAt b .kinds) os) i 0
+  kind-read i h =
+      ap (λ (v : List ℕ). getD v (l .register + getD os i 0) 0) (ready-words w b (K .counted .ready))
+      ∙ get-kind (netIn w) (tableIn b) l (stateAt b) placed (getD os i 0) (object-in i h) ∙ sym (kind-is i h)
+
+  pub kind-in : (i : ℕ) → i < length os → getD (kindsOf (stateAt b .kinds) os) i 0 < netIn w .kinds
+  kind-in i h = rw (kind-is i h) (kind-of-in w b l (K .counted .ready) (K .counted .lay) (getD os i 0) (object-in i h))
+
+  -- the kinds kept, one by one, are the kinds
+  pub kinds-kept : (ks : List ℕ) → length ks ≡ 8 → ((j : ℕ) → j < length os → getD ks j 0 ≡ getD (kindsOf (stateAt b .kinds) os) j 0) → take (length os) ks ≡ kindsOf (stateAt b .kinds) os
+  kinds-kept ks e f =
+      let n : length (take (length os) ks) ≡ length os = simp length-take (omega (arith, few-objects w b l a os (K .counted))) in
+      ext-getD 0 (take (length os) ks) (kindsOf (stateAt b .kinds) os) (n ∙ sym kinds-length) (λ i h. getD-take (length os) ks i 0 (omega arith) ∙ f i (omega arith))
+
+-- the kinds kept of an event's objects
+module _ (w b : List ℕ) (l : Layout) (a : ℕ) (os ks : List ℕ) (M : Moving w b l a os ks) (i : ℕ) (h : i < length os) where
+  kept-at : getD ks i 0 ≡ getD (kindsOf (stateAt b .kinds) os) i 0
+  kept-at = sym (getD-take (length os) ks i 0 h) ∙ ap (λ (x : List ℕ). getD x i 0) (M .kinds)
+
+  pub kept-is : getD ks i 0 ≡ getD (stateAt b .kinds) (getD os i 0) 0
+  kept-is = kept-at ∙ kind-is w b l a os (M .known) i h
+
+  pub kept-in : getD ks i 0 < netIn w .kinds
+  kept-in = rw kept-at (kind-in w b l a os (M .known) i h)
+
+  pub kept-takes : takes (netIn w) a (getD ks i 0) ≡ true
+  kept-takes = rw kept-at (All-at (λ (k : ℕ). takes (netIn w) a k ≡ true) 0 (kindsOf (stateAt b .kinds) os) (M .taken) i (omega (arith, kinds-length w b l a os (M .known))))
+
+  arc-good : GoodArc (netIn w) (inputOf (netIn w) a (getD ks i 0), outputOf (netIn w) a (getD ks i 0))
+  arc-good = arc-has (netIn w .kindOf) (GoodArc (netIn w)) (getD ks i 0) (netIn w .arcs a) (ready-loaded w b (M .known .counted .ready) .arc-good a (M .known .counted .act-in)) kept-takes
+
+  pub inp-in : inputOf (netIn w) a (getD ks i 0) < l .places
+  inp-in = omega (arith, arc-good .inp, placed w b l a os (M .known) .places-are)
+
+  pub out-in : outputOf (netIn w) a (getD ks i 0) < l .places
+  out-in = omega (arith, arc-good .out, placed w b l a os (M .known) .places-are)
+
+  pub own-in : (l .counts + (4 + 2 * a) < l .jumps) × (l .jumps ≤ 7461)
+  own-in = let P = placed w b l a os (M .known) in
+      (omega (arith, M .known .counted .act-in, P .jumps-at), omega (arith, words-size w b l (M .known .counted .ready) (M .known .counted .lay), words-few w b l (M .known .counted .ready) (M .known .counted .lay)))

@@ -1,0 +1,6 @@
+pub mod Asked
+pub mod Loops
+pub mod Sinks
+pub mod Steps
+pub mod Taken
+pub mod Walk

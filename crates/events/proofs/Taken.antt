@@ -1,0 +1,91 @@
+-- What is left of an accepted event once its objects are moved, and the call's answer and bytes. Assumes nothing.
+use Prim.Native.Nat.{ℕ, suc, _+_, _*_}
+use mathlib.Core.Path.{_≡_, refl, ap, _∙_}
+use mathlib.Core.List.{List, [], _∷_, map}
+use native.Mathlib.Omega.{arith}
+use lib.ListN.{length, getD, set, take, length-set}
+use borrow.Author.Tests.{eq-eqb, ne-eqb}
+use Rattle.words.specs.Lists.{keep}
+use Rattle.net.specs.Net.{Net}
+use Rattle.net.specs.Held.{netIn}
+use Rattle.replay.specs.Plain.{Ask, Leg, Hop, jumped, hops, walked, leg, kindsOf}
+use Rattle.replay.specs.State.{State, bump, hopIndex, afterEvent, answerS, acceptS}
+use Rattle.replay.specs.Record.{encode, tableIn}
+use Rattle.replay.specs.Calls.{stateAt, askCode, askBytes}
+use Rattle.replay.specs.Offsets.{layoutOf}
+use Rattle.replay.specs.Ready.{Ready}
+use Rattle.events.specs.Moves.{numbersOf, movedState, CanAdd}
+use Rattle.events.specs.Answers.{askEvent, Moving}
+use Rattle.replay.specs.declared.layout.Layout.{Layout}
+use Rattle.replay.proofs.Accepted.{accepted}
+use Rattle.replay.proofs.Tally.{length-tally}
+use Rattle.replay.proofs.Encode.{fired-le}
+use Rattle.replay.proofs.RecordLaws.{Placed, placed-same, withEvents, record-size, get-events, get-fired, put-events, put-fired, ready-loaded, ready-sound}
+use Rattle.events.proofs.Asked.{placed-at}
+
+pub length-walked : (ls : List Leg) (ps : List ℕ) → length (walked ps ls) ≡ length ps
+length-walked [] ps = refl
+length-walked (l ∷ ls) ps = length-walked ls (set ps (l .obj) (l .out)) ∙ length-set ps (l .obj) (l .out)
+
+module _ (w b : List ℕ) (l : Layout) (a : ℕ) (os ks : List ℕ) (M : Moving w b l a os ks) where
+  abbrev d : State
+  d = stateAt b
+
+  abbrev m : State
+  m = movedState (netIn w) d a os
+
+  placed : Placed (netIn w) (tableIn b) l m
+  placed = placed-same (netIn w) (tableIn b) l d m (placed-at w b l (M .known .counted .ready) (M .known .counted .lay)) refl (length-walked (map (leg (netIn w) (d .kinds) a) os) (d .places)) refl
+      (length-tally (map (λ (h : Hop). h .act) (keep jumped (hops (d .places) (map (leg (netIn w) (d .kinds) a) os)))) (d .jumps))
+      (length-tally (map (hopIndex (netIn w)) (keep jumped (hops (d .places) (map (leg (netIn w) (d .kinds) a) os)))) (d .pairs))
+
+  placed-events : Placed (netIn w) (tableIn b) l (withEvents m (suc (d .events)))
+  placed-events = placed-same (netIn w) (tableIn b) l m (withEvents m (suc (d .events))) placed refl refl refl refl refl
+
+  -- the event is counted
+  events-more : bump (numbersOf (tableIn b) m) (l .counts + 1) ≡ numbersOf (tableIn b) (withEvents m (suc (d .events)))
+  events-more = ap (λ (v : ℕ). set (numbersOf (tableIn b) m) (l .counts + 1) (suc v)) (get-events (netIn w) (tableIn b) l m placed) ∙ put-events (netIn w) (tableIn b) l m placed (suc (d .events))
+
+  fired-more : bump (numbersOf (tableIn b) (withEvents m (suc (d .events)))) (l .counts + (3 + 2 * a)) ≡ numbersOf (tableIn b) (afterEvent (netIn w) d (record { act = a; objs = os }))
+  fired-more =
+      ap (λ (v : ℕ). set (numbersOf (tableIn b) (withEvents m (suc (d .events)))) (l .counts + (3 + 2 * a)) (suc v)) (get-fired (netIn w) (tableIn b) l (withEvents m (suc (d .events))) placed-events a (M .known .counted .act-in))
+      ∙ put-fired (netIn w) (tableIn b) l (withEvents m (suc (d .events))) placed-events a (suc (getD (d .fired) a 0)) (M .known .counted .act-in)
+
+  pub event-counted : bump (bump (numbersOf (tableIn b) m) (l .counts + 1)) (l .counts + (3 + 2 * a)) ≡ numbersOf (tableIn b) (afterEvent (netIn w) d (record { act = a; objs = os }))
+  event-counted = ap (λ (v : List ℕ). bump v (l .counts + (3 + 2 * a))) events-more ∙ fired-more
+
+  pub can-events : CanAdd (l .counts + 1) (numbersOf (tableIn b) m)
+  can-events = record {
+    inside = omega (arith, record-size (netIn w) (tableIn b) l m placed, placed .jumps-at);
+    room = omega (arith, get-events (netIn w) (tableIn b) l m placed, ready-sound w b (M .known .counted .ready) .events);
+  }
+
+  pub can-fired : CanAdd (l .counts + (3 + 2 * a)) (bump (numbersOf (tableIn b) m) (l .counts + 1))
+  can-fired = let R = M .known .counted .ready in let h = M .known .counted .act-in in rw events-more (record {
+    inside = omega (arith, record-size (netIn w) (tableIn b) l (withEvents m (suc (d .events))) placed-events, placed .jumps-at);
+    room = omega (arith, get-fired (netIn w) (tableIn b) l (withEvents m (suc (d .events))) placed-events a h, fired-le (netIn w) (ready-loaded w b R) d (ready-sound w b R) a h);
+  })
+
+-- an event that none of 21 to 27 refuses can be carried out
+pub can-take : (w b : List ℕ) (l : Layout) (a : ℕ) (os ks : List ℕ) → Ready w b → l ≡ layoutOf (netIn w) b → answerS (netIn w) (stateAt b) (askEvent a os) ≡ 0 → take (length os) ks ≡ kindsOf (stateAt b .kinds) os → Moving w b l a os ks
+can-take w b l a os ks R e z k =
+    let t = accepted (netIn w) (stateAt b .kinds) (stateAt b .closed) (stateAt b .events) (record { act = a; objs = os }) z in
+    record {
+      known = record { counted = record { ready = R; lay = e; act-in = t .fits .act-in; size = t .fits .size }; known = t .fits .known };
+      taken = t .fits .taken;
+      kinds = k;
+    }
+
+-- the answer to a call, and the bytes that it leaves
+module _ (w b : List ℕ) (R : Ready w b) (q : Ask) where
+  pub code-is : answerS (netIn w) (stateAt b) q ≡ askCode b q
+  unfolding askCode
+  code-is = ap (λ (N : Net). answerS N (stateAt b) q) (R .net)
+
+  pub bytes-taken : (s : List ℕ) → askCode b q ≡ 0 → s ≡ encode (tableIn b) (acceptS (netIn w) (stateAt b) q) → s ≡ askBytes b q
+  unfolding askBytes
+  bytes-taken s z e = e ∙ ap (λ (N : Net). encode (tableIn b) (acceptS N (stateAt b) q)) (R .net) ∙ rw (eq-eqb (askCode b q) 0 z)
+
+  pub bytes-refused : (askCode b q ≡ 0 → ⊥) → b ≡ askBytes b q
+  unfolding askBytes
+  bytes-refused n = rw (ne-eqb (askCode b q) 0 n)

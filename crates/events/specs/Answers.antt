@@ -1,0 +1,66 @@
+-- The answers to an event and to a close as document 01's numbers, and what an event's tests may rely on.
+use Prim.Native.Nat.{ℕ, _<_}
+use mathlib.Core.Bool.{Bool, true, not}
+use mathlib.Core.Path.{_≡_}
+use mathlib.Core.List.{List, [], _∷_}
+use lib.ListN.{length, take}
+use lib.Dec.{leb}
+use Rattle.words.specs.Lists.{any, twice, All}
+use Rattle.net.specs.Net.{Net, takes}
+use Rattle.net.specs.Held.{netIn}
+use Rattle.replay.specs.Plain.{Ask, event, close, kindsOf}
+use Rattle.replay.specs.Calls.{stateAt}
+use Rattle.replay.specs.Offsets.{layoutOf}
+use Rattle.replay.specs.Ready.{Ready}
+use Rattle.replay.specs.declared.layout.Layout.{Layout}
+use Rattle.events.specs.declared.event.EventAnswer.{EventAnswer}
+use Rattle.events.specs.declared.event.EventAnswer.the-variants.{Taken, Closed, Full, Activity, Number, Object, Kind, TwoOfKind}
+use Rattle.events.specs.declared.close.CloseAnswer.{CloseAnswer}
+use Rattle.events.specs.declared.close.CloseAnswer.the-variants.{Taken as Shut, AlreadyClosed}
+
+abbrev pub eventCode : EventAnswer → ℕ
+eventCode Taken = 0
+eventCode Closed = 21
+eventCode Full = 22
+eventCode Activity = 23
+eventCode Number = 24
+eventCode Object = 25
+eventCode Kind = 26
+eventCode TwoOfKind = 27
+
+abbrev pub closeCode : CloseAnswer → ℕ
+closeCode Shut = 0
+closeCode AlreadyClosed = 31
+
+-- an event and a close that are put to a trail
+abbrev pub askEvent : ℕ → List ℕ → Ask
+askEvent a os = event (record { act = a; objs = os })
+
+abbrev pub askClose : Ask
+askClose = close
+
+-- 25 to 27: the tests of an event's objects
+abbrev pub objectTests : Net → List ℕ → ℕ → List ℕ → List (Bool × ℕ)
+objectTests N ks a os =
+    (any (λ (o : ℕ). leb (length ks) o) os, 25)
+    ∷ (any (λ (k : ℕ). not (takes N a k)) (kindsOf ks os), 26)
+    ∷ (twice (kindsOf ks os), 27)
+    ∷ []
+
+-- a known activity and as many objects as it has arcs, with the layout of the record
+pub record Counted (w b : List ℕ) (l : Layout) (a : ℕ) (os : List ℕ) : Type 0 where
+  pub ready : Ready w b
+  pub lay : l ≡ layoutOf (netIn w) b
+  pub act-in : a < netIn w .acts
+  pub size : length os ≡ length (netIn w .arcs a)
+
+-- and the objects are in the register
+pub record Known (w b : List ℕ) (l : Layout) (a : ℕ) (os : List ℕ) : Type 0 where
+  pub counted : Counted w b l a os
+  pub known : All (λ (o : ℕ). o < length (stateAt b .kinds)) os
+
+-- and the activity takes their kinds, which stand in `ks`
+pub record Moving (w b : List ℕ) (l : Layout) (a : ℕ) (os ks : List ℕ) : Type 0 where
+  pub known : Known w b l a os
+  pub taken : All (λ (k : ℕ). takes (netIn w) a k ≡ true) (kindsOf (stateAt b .kinds) os)
+  pub kinds : take (length os) ks ≡ kindsOf (stateAt b .kinds) os

@@ -1,0 +1,219 @@
+// An event on a trail in lent bytes: refused with the first number from 21 to 27 that applies, or carried out in place.
+
+use replay::layout::Layout;
+use replay::layout::read_layout;
+use crate::moves::add_one;
+use crate::moves::move_object;
+ghost use mathlib.Core.Path.{_≡_};
+ghost use mathlib.Core.Bool.{false, not};
+ghost use Prim.Native.Nat.{ℕ, _≤_, _<_};
+ghost use lib.ListN.{length, take};
+ghost use lib.Dec.{leb};
+ghost use Rattle.words.specs.Lists.{any, twice};
+ghost use Rattle.words.specs.Refusals.{first};
+ghost use Rattle.words.specs.Words.{wordsOf};
+ghost use Rattle.net.specs.Net.{takes};
+ghost use Rattle.net.specs.Held.{netIn};
+ghost use Rattle.replay.specs.Plain.{kindsOf};
+ghost use Rattle.replay.specs.State.{answerS, afterEvent};
+ghost use Rattle.replay.specs.Record.{tableIn};
+ghost use Rattle.replay.specs.Calls.{stateAt, askCode, askBytes};
+ghost use Rattle.replay.specs.Offsets.{layoutOf};
+ghost use Rattle.replay.specs.Ready.{Ready};
+ghost use Rattle.events.specs.Moves.{numbersOf, movedState};
+ghost use Rattle.events.specs.Answers.{eventCode, askEvent, objectTests, Counted, Known, Moving};
+
+// The answer to an event. `eventCode` gives document 01's number.
+pub enum EventAnswer {
+    Taken,
+    // 21: the trail is closed.
+    Closed,
+    // 22: 1,000,000 events are already accepted.
+    Full,
+    // 23: unknown activity.
+    Activity,
+    // 24: the number of objects differs from the activity's arcs.
+    Number,
+    // 25: unknown object.
+    Object,
+    // 26: an object of a kind the activity does not take.
+    Kind,
+    // 27: two of the objects are of one kind.
+    TwoOfKind,
+}
+
+// 25: an object is unknown.
+fn unknown(objects: usize, objs: &[u32]) -> bool
+    ensures { λ r. ⌜ r ≡ any (λ (o : ℕ). leb objects o) (now (objs .entry)) ⌝ }
+{
+    let mut i = 0;
+    while i < objs.len() {
+        if objects <= (objs[i] as usize) {
+            return true;
+        }
+        i += 1;
+    }
+    false
+}
+
+// 26: an object is of a kind that the activity does not take. Where there is none, the kinds of all are kept.
+fn foreign(
+    rec: &[u8],
+    t: &[u32; 1684],
+    lay: Layout,
+    act: usize,
+    objs: &[u32],
+    kinds: &mut [usize; 8],
+) -> bool
+    requires { ⌜ Known (now t) (now rec) lay act (now objs) ⌝ }
+    requires { ⌜ length (now kinds) ≡ 8 ⌝ }
+    ensures { λ r. ⌜ (r ≡ any (λ (k : ℕ). not (takes (netIn (now (t .entry))) act k)) (kindsOf (stateAt (now (rec .entry)) .kinds) (now (objs .entry)))) × (r ≡ false → take (length (now (objs .entry))) (now (kinds .exit)) ≡ kindsOf (stateAt (now (rec .entry)) .kinds) (now (objs .entry))) ⌝ }
+{
+    let mut i = 0;
+    while i < objs.len() {
+        let k = words::get_word(rec, lay.register + (objs[i] as usize)) as usize;
+        if !net::look::takes_kind(t, act, k) {
+            return true;
+        }
+        kinds[i] = k;
+        i += 1;
+    }
+    false
+}
+
+// 27: two of the first n kinds are the same.
+fn two_of_kind(kinds: &[usize; 8], n: usize) -> bool
+    requires { ⌜ (n ≤ 8) × (length (take n (now kinds)) ≡ n) ⌝ }
+    ensures { λ r. ⌜ r ≡ twice (take n (now (kinds .entry))) ⌝ }
+{
+    let mut found = false;
+    let mut i = 0;
+    'pairs: while i < n {
+        let mut j = i + 1;
+        while j < n {
+            if kinds[i] == kinds[j] {
+                found = true;
+                break 'pairs;
+            }
+            j += 1;
+        }
+        i += 1;
+    }
+    found
+}
+
+// 25 to 27: the tests of an event's objects. Where none applies, their kinds are kept.
+fn refuse_objects(
+    rec: &[u8],
+    t: &[u32; 1684],
+    lay: Layout,
+    act: usize,
+    objs: &[u32],
+    kinds: &mut [usize; 8],
+) -> EventAnswer
+    requires { ⌜ Counted (now t) (now rec) lay act (now objs) ⌝ }
+    requires { ⌜ length (now kinds) ≡ 8 ⌝ }
+    ensures { λ r. ⌜ (eventCode r ≡ first (objectTests (netIn (now (t .entry))) (stateAt (now (rec .entry)) .kinds) act (now (objs .entry)))) × (eventCode r ≡ 0 → take (length (now (objs .entry))) (now (kinds .exit)) ≡ kindsOf (stateAt (now (rec .entry)) .kinds) (now (objs .entry))) ⌝ }
+{
+    if unknown(lay.objects, objs) {
+        return EventAnswer::Object;
+    }
+    if foreign(rec, t, lay, act, objs, kinds) {
+        return EventAnswer::Kind;
+    }
+    if two_of_kind(kinds, objs.len()) {
+        return EventAnswer::TwoOfKind;
+    }
+    EventAnswer::Taken
+}
+
+// 21 to 27: the first that applies. Where none does, the kinds of the objects are kept.
+fn refuse(
+    rec: &[u8],
+    t: &[u32; 1684],
+    lay: Layout,
+    act: usize,
+    objs: &[u32],
+    kinds: &mut [usize; 8],
+) -> EventAnswer
+    requires { ⌜ Ready (now t) (now rec) ⌝ }
+    requires { ⌜ (lay ≡ layoutOf (netIn (now t)) (now rec)) × (length (now kinds) ≡ 8) ⌝ }
+    ensures { λ r. ⌜ (eventCode r ≡ answerS (netIn (now (t .entry))) (stateAt (now (rec .entry))) (askEvent act (now (objs .entry)))) × (eventCode r ≡ 0 → take (length (now (objs .entry))) (now (kinds .exit)) ≡ kindsOf (stateAt (now (rec .entry)) .kinds) (now (objs .entry))) ⌝ }
+{
+    if words::get_word(rec, lay.counts) != 0 {
+        return EventAnswer::Closed;
+    }
+    if 1000000 <= words::get_word(rec, lay.counts + 1) {
+        return EventAnswer::Full;
+    }
+    if net::look::acts(t) <= act {
+        return EventAnswer::Activity;
+    }
+    if objs.len() != net::look::arcs(t, act) {
+        return EventAnswer::Number;
+    }
+    refuse_objects(rec, t, lay, act, objs, kinds)
+}
+
+// Every object of the event jumps where it has to, and is moved.
+fn step_objects(
+    rec: &mut [u8],
+    t: &[u32; 1684],
+    lay: Layout,
+    act: usize,
+    objs: &[u32],
+    kinds: &[usize; 8],
+)
+    requires { ⌜ Moving (now t) (now rec) lay act (now objs) (now kinds) ⌝ }
+    ensures { λ _. ⌜ wordsOf (now (rec .exit)) ≡ numbersOf (tableIn (now (rec .entry))) (movedState (netIn (now (t .entry))) (stateAt (now (rec .entry))) act (now (objs .entry))) ⌝ }
+{
+    let mut i = 0;
+    while i < objs.len() {
+        let k = kinds[i];
+        let inp = net::look::input(t, act, k);
+        let out = net::look::output(t, act, k) as u32;
+        move_object(
+            rec,
+            lay,
+            lay.counts + (4 + 2 * act),
+            objs[i] as usize,
+            inp,
+            out,
+        );
+        i += 1;
+    }
+}
+
+// An event to which none of 21 to 27 applies is carried out and counted.
+fn take_event(
+    rec: &mut [u8],
+    t: &[u32; 1684],
+    lay: Layout,
+    act: usize,
+    objs: &[u32],
+    kinds: &[usize; 8],
+)
+    requires { ⌜ Moving (now t) (now rec) lay act (now objs) (now kinds) ⌝ }
+    ensures { λ _. ⌜ wordsOf (now (rec .exit)) ≡ numbersOf (tableIn (now (rec .entry))) (afterEvent (netIn (now (t .entry))) (stateAt (now (rec .entry))) (record { act = act; objs = now (objs .entry) })) ⌝ }
+{
+    step_objects(rec, t, lay, act, objs, kinds);
+    add_one(rec, lay.counts + 1);
+    add_one(rec, lay.counts + (3 + 2 * act));
+}
+
+// Puts an event to a trail: it is refused and nothing changes, or it is carried out in the record's bytes.
+pub fn event(rec: &mut [u8], t: &[u32; 1684], act: u32, objs: &[u32]) -> EventAnswer
+    requires { ⌜ Ready (now t) (now rec) ⌝ }
+    ensures { λ r. ⌜ (eventCode r ≡ askCode (now (rec .entry)) (askEvent act (now (objs .entry)))) × (now (rec .exit) ≡ askBytes (now (rec .entry)) (askEvent act (now (objs .entry)))) ⌝ }
+{
+    let lay = read_layout(rec, t);
+    let mut kinds = [0usize; 8];
+    let answer = refuse(rec, t, lay, act as usize, objs, &mut kinds);
+    match answer {
+        EventAnswer::Taken => {
+            take_event(rec, t, lay, act as usize, objs, &kinds);
+            EventAnswer::Taken
+        }
+        _ => answer,
+    }
+}

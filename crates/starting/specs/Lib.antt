@@ -1,0 +1,2 @@
+pub mod StartAnswers
+pub mod Startable

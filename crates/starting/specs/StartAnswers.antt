@@ -1,0 +1,10 @@
+-- The number of this paper for each answer of starting.
+use Prim.Native.Nat.{ℕ}
+use Rattle.starting.specs.declared.StartAnswer.{StartAnswer}
+use Rattle.starting.specs.declared.StartAnswer.the-variants.{Taken, Number, Kind, NoRoom}
+
+abbrev pub startAnswerCode : StartAnswer → ℕ
+startAnswerCode Taken = 0
+startAnswerCode Number = 11
+startAnswerCode Kind = 12
+startAnswerCode NoRoom = 61
