@@ -167,20 +167,20 @@ fn step_objects(
     requires { ⌜ Moving (now t) (now rec) lay act (now objs) (now kinds) ⌝ }
     ensures { λ _. ⌜ wordsOf (now (rec .exit)) ≡ numbersOf (tableIn (now (rec .entry))) (movedState (netIn (now (t .entry))) (stateAt (now (rec .entry))) act (now (objs .entry))) ⌝ }
 {
-    let mut i = 0;
-    while i < objs.len() {
-        let k = kinds[i];
+    let mut done = 0;
+    while done < objs.len() {
+        let k = kinds[done];
         let inp = net::look::input(t, act, k);
         let out = net::look::output(t, act, k) as u32;
         move_object(
             rec,
             lay,
             lay.counts + (4 + 2 * act),
-            objs[i] as usize,
+            objs[done] as usize,
             inp,
             out,
         );
-        i += 1;
+        done += 1;
     }
 }
 

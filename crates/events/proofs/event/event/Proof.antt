@@ -1,3 +1,4 @@
+-- `event` meets its contract: a refused event leaves the bytes, an accepted one leaves those of the state after it. Assumes nothing.
 use Prim.Native.Nat.{ℕ, _<_}
 use mathlib.Core.Path.{_≡_, sym, ap, _∙_}
 use mathlib.Core.List.{List, [], _∷_}

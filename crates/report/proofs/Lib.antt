@@ -1,0 +1,7 @@
+mod DecimalLaws
+mod OverLaws
+mod FitnessLaws
+mod LineLaws
+mod TrailLaws
+mod NextLaws
+pub mod RowsHold

@@ -1,0 +1,7 @@
+pub mod Text
+pub mod Decimal
+pub mod Fitness
+pub mod Lines
+pub mod Answer
+pub mod Rows
+pub mod TrailLines

@@ -1,0 +1,44 @@
+-- Document 01's sheet for T4, and T13, as rows: what a definition gives, and the text that it is to be.
+use Prim.Native.Nat.{ℕ}
+use Prim.Native.String.{String}
+use mathlib.Core.Path.{_≡_}
+use mathlib.Core.List.{List, [], _∷_}
+use Rattle.words.specs.Lists.{All}
+use Rattle.report.specs.Text.{ascii}
+use Rattle.report.specs.Fitness.{fitness, fitnessText}
+use Rattle.report.specs.Lines.{trailLine, placeLine, actLine, jumpLine}
+
+pub record Row : Type 0 where
+  pub gives : List ℕ
+  pub text : String
+
+-- the sheet for T4, with a pair of places that has no jumps, whose line is nothing
+unfoldable pub sheet : List Row
+sheet =
+    record { gives = trailLine 3 5 1 10; text = "trail 3 5 1 10 0.900\n" }
+    ∷ record { gives = placeLine 0 1 0 0; text = "place 0 1 0 0 1.000\n" }
+    ∷ record { gives = placeLine 1 3 0 0; text = "place 1 3 0 0 1.000\n" }
+    ∷ record { gives = placeLine 2 1 0 0; text = "place 2 1 0 0 1.000\n" }
+    ∷ record { gives = placeLine 3 1 0 1; text = "place 3 1 0 1 1.000\n" }
+    ∷ record { gives = placeLine 4 2 1 0; text = "place 4 2 1 0 0.500\n" }
+    ∷ record { gives = placeLine 5 2 0 0; text = "place 5 2 0 0 1.000\n" }
+    ∷ record { gives = actLine 0 1 1 0; text = "act 0 1 1 0 1.000\n" }
+    ∷ record { gives = actLine 1 1 1 0; text = "act 1 1 1 0 1.000\n" }
+    ∷ record { gives = actLine 2 2 4 1; text = "act 2 2 4 1 0.750\n" }
+    ∷ record { gives = actLine 3 1 1 0; text = "act 3 1 1 0 1.000\n" }
+    ∷ record { gives = jumpLine 3 4 1; text = "jump 3 4 1\n" }
+    ∷ record { gives = jumpLine 4 3 0; text = "" }
+    ∷ []
+
+-- T13, and FIT where the divisor is 0
+unfoldable pub rounding : List Row
+rounding =
+    record { gives = fitnessText (fitness 4 10); text = "0.600" }
+    ∷ record { gives = fitnessText (fitness 1 3); text = "0.666" }
+    ∷ record { gives = fitnessText (fitness 1 100000); text = "0.999" }
+    ∷ record { gives = fitnessText (fitness 0 0); text = "-" }
+    ∷ []
+
+-- the claim: each row gives its text
+abbrev pub RowsHold : List Row → Type 0
+RowsHold rows = All (λ (r : Row). r .gives ≡ ascii (r .text)) rows

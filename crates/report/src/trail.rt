@@ -1,0 +1,99 @@
+// The lines of a trail, from its bytes: an unknown place (51) or activity (52) is refused before the lent part is looked at.
+
+use crate::LineAnswer;
+use crate::lines;
+use counts::ActRead;
+use counts::PairRead;
+use counts::PlaceRead;
+use counts::read_act;
+use counts::read_pair;
+use counts::read_place;
+use counts::read_trail;
+ghost use mathlib.Core.Path.{_≡_};
+ghost use mathlib.Core.List.{[]};
+ghost use Prim.Native.Nat.{_*_, _<_};
+ghost use lib.ListN.{getD};
+ghost use Rattle.net.specs.Held.{netIn};
+ghost use Rattle.replay.specs.Calls.{stateAt};
+ghost use Rattle.replay.specs.Ready.{Ready};
+ghost use Rattle.counts.specs.Reads.{placeTests, actTests, pairTests};
+ghost use Rattle.report.specs.Answer.{Writes};
+ghost use Rattle.report.specs.TrailLines.{trailLineAt, placeLineAt, actLineAt, jumpLineAt, nextJump};
+
+// The next pair of places that has jumps.
+pub enum NextJump {
+    Done,
+    // Its two places, and where to look for the one after it.
+    Pair(u32, u32, u32),
+}
+
+pub fn trail_line(rec: &[u8], t: &[u32; 1684], out: &mut [u8]) -> LineAnswer
+    requires { ⌜ Ready (now t) (now rec) ⌝ }
+    ensures { λ r. ⌜ Writes [] (trailLineAt (now (rec .entry))) (now (out .entry)) r (now (out .exit)) ⌝ }
+{
+    let k = read_trail(rec, t);
+    lines::trail_line(k.objects, k.events, k.jumps, k.transfers, out)
+}
+
+// The line of place q.
+pub fn place_line(rec: &[u8], t: &[u32; 1684], q: u32, out: &mut [u8]) -> LineAnswer
+    requires { ⌜ Ready (now t) (now rec) ⌝ }
+    ensures { λ r. ⌜ Writes (placeTests (now (rec .entry)) q) (placeLineAt (now (rec .entry)) q) (now (out .entry)) r (now (out .exit)) ⌝ }
+{
+    match read_place(rec, t, q) {
+        PlaceRead::Unknown => LineAnswer::UnknownPlace,
+        PlaceRead::Counts(k) => lines::place_line(q, k.consumed, k.jumps_in, k.jumps_out, out),
+    }
+}
+
+// The line of activity a.
+pub fn act_line(rec: &[u8], t: &[u32; 1684], a: u32, out: &mut [u8]) -> LineAnswer
+    requires { ⌜ Ready (now t) (now rec) ⌝ }
+    ensures { λ r. ⌜ Writes (actTests (now (rec .entry)) a) (actLineAt (now (rec .entry)) a) (now (out .entry)) r (now (out .exit)) ⌝ }
+{
+    match read_act(rec, t, a) {
+        ActRead::Unknown => LineAnswer::UnknownActivity,
+        ActRead::Counts(k) => lines::act_line(a, k.fired, k.moved, k.jumps, out),
+    }
+}
+
+// The line of the jumps from one place to another; nothing where there are none.
+pub fn jump_line(rec: &[u8], t: &[u32; 1684], from: u32, to: u32, out: &mut [u8]) -> LineAnswer
+    requires { ⌜ Ready (now t) (now rec) ⌝ }
+    ensures { λ r. ⌜ Writes (pairTests (now (rec .entry)) from to) (jumpLineAt (now (rec .entry)) from to) (now (out .entry)) r (now (out .exit)) ⌝ }
+{
+    match read_pair(rec, t, from, to) {
+        PairRead::Unknown => LineAnswer::UnknownPlace,
+        PairRead::Count(n) => lines::jump_line(from, to, n, out),
+    }
+}
+
+// The jump count of the pair with index i, row by row.
+fn count_at(rec: &[u8], t: &[u32; 1684], places: u32, i: u32) -> u32
+    requires { ⌜ Ready (now t) (now rec) ⌝ }
+    requires { ⌜ (places ≡ netIn (now t) .places) × (i < places * places) ⌝ }
+    ensures { λ r. ⌜ r ≡ getD (stateAt (now (rec .entry)) .pairs) i 0 ⌝ }
+{
+    match read_pair(rec, t, i / places, i % places) {
+        PairRead::Unknown => 0,
+        PairRead::Count(n) => n,
+    }
+}
+
+// The first pair with jumps from index i on, pairs being counted row by row: from 0 on, and each time from where the last
+// answer says, it gives every pair with jumps once. The order of the lines is free in document 01; this one is ascending.
+pub fn next_jump(rec: &[u8], t: &[u32; 1684], i: u32) -> NextJump
+    requires { ⌜ Ready (now t) (now rec) ⌝ }
+    ensures { λ r. ⌜ r ≡ nextJump (now (rec .entry)) i ⌝ }
+{
+    let places = net::look::places(t) as u32;
+    let n = places * places;
+    let mut k = i;
+    while k < n {
+        if count_at(rec, t, places, k) != 0 {
+            return NextJump::Pair(k / places, k % places, k + 1);
+        }
+        k += 1;
+    }
+    NextJump::Done
+}

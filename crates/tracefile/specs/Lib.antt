@@ -1,0 +1,4 @@
+pub mod Trace
+pub mod Answers
+pub mod Parts
+pub mod Claims

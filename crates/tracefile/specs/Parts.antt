@@ -1,0 +1,64 @@
+-- The tests of a read in the parts in which they are made, and what each part may rely on.
+use Prim.Native.Nat.{ℕ, _+_, _*_, _≤_, _<_}
+use mathlib.Core.Bool.{Bool, not}
+use mathlib.Core.List.{List, [], _∷_}
+use lib.ListN.{length, getD}
+use lib.Dec.{ltb, leb, eqb}
+use Rattle.words.specs.Lists.{any, twice}
+use Rattle.words.specs.Refusals.{first}
+use Rattle.words.specs.Words.{word}
+use Rattle.net.specs.Net.{Net, takes}
+use Rattle.replay.specs.Plain.{kindsOf, registerTests}
+use Rattle.tracefile.specs.declared.Answer.{Answer}
+use Rattle.tracefile.specs.Answers.{unless}
+use Rattle.tracefile.specs.Trace.{objectsAt, eventFound, readFrom}
+
+-- the kinds of all objects are known
+pub record Known (N : Net) (ks : List ℕ) : Type 0 where
+  pub kind : (o : ℕ) → o < length ks → getD ks o 0 < N .kinds
+
+-- 71 and 11 by how many bytes the register claims and how many of them are there, then 11 and 12 on its kinds
+unfoldable pub openCode : Net → ℕ → ℕ → List ℕ → ℕ
+openCode N claimed there ks = first ((ltb there claimed, 71) ∷ (ltb 4096 claimed, 11) ∷ registerTests N ks)
+
+-- 23, 24, and the objects in body and file
+abbrev pub countTests : Net → List ℕ → ℕ → ℕ → List (Bool × ℕ)
+countTests N w body at =
+    (leb (N .acts) (word w 0), 23)
+    ∷ (not (eqb (word w 4) (length (N .arcs (word w 0)))), 24)
+    ∷ (ltb body (at + 8 + 4 * word w 4), 73)
+    ∷ (ltb (length w) (8 + 4 * word w 4), 73)
+    ∷ []
+
+-- all before the objects
+abbrev pub frontTests : Net → ℕ → List ℕ → ℕ → ℕ → List (Bool × ℕ)
+frontTests N accepted w body at =
+    (ltb body at, 73)
+    ∷ (ltb body (at + 8), 73)
+    ∷ (ltb (length w) 8, 73)
+    ∷ (leb 1000000 accepted, 22)
+    ∷ countTests N w body at
+
+-- 26, 27, by the kinds of the objects of an event
+abbrev pub kindTests : Net → ℕ → List ℕ → List (Bool × ℕ)
+kindTests N a kinds = (any (λ (k : ℕ). not (takes N a k)) kinds, 26) ∷ (twice kinds, 27) ∷ []
+
+-- 25, 26, 27
+abbrev pub objectTests : Net → List ℕ → ℕ → List ℕ → List (Bool × ℕ)
+objectTests N ks a os = (any (λ (o : ℕ). leb (length ks) o) os, 25) ∷ kindTests N a (kindsOf ks os)
+
+-- an event in the window w whose numbers are all there, of a known activity, with as many objects as it has arcs
+pub record Ready (N : Net) (w : List ℕ) (at : ℕ) : Type 0 where
+  pub act : word w 0 < N .acts
+  pub few : word w 4 ≤ 8
+  pub room : 8 + 4 * word w 4 ≤ length w
+  pub fits : at + 8 + 4 * word w 4 ≤ 18446744073709551615
+
+-- the event at the front of the window w, or 25, 26 or 27
+unfoldable pub objectsFound : Net → List ℕ → List ℕ → ℕ → Answer
+objectsFound N ks w at = unless (first (objectTests N ks (word w 0) (objectsAt w 8 (word w 4)))) (eventFound w 0 at) at
+
+-- reading in a file whose register claims `claimed` bytes: 71 where they are not all there
+unfoldable pub bodyRead : Net → List ℕ → ℕ → List ℕ → ℕ → ℕ → ℕ → Answer
+bodyRead N ks accepted f claimed body at =
+    unless (first ((ltb (length f) (16 + claimed), 71) ∷ [])) (readFrom N ks accepted f (16 + claimed + at) body at) at

@@ -1,0 +1,104 @@
+-- The trail file (document 01 "Trail file, program, sheet"): contents of two pairs, register and events, then the bodies.
+use Prim.Native.Nat.{ℕ, zero, suc, _+_, _*_, _%_}
+use mathlib.Core.Bool.{Bool, not}
+use mathlib.Core.List.{List, [], _∷_, _++_}
+use lib.ListN.{length, take, drop, replicate}
+use lib.Dec.{ltb, eqb}
+use lib.Seq.{sets}
+use Rattle.words.specs.Lists.{pick}
+use Rattle.words.specs.Refusals.{first}
+use Rattle.words.specs.Words.{word, wordsOf}
+use Rattle.net.specs.Net.{Net}
+use Rattle.replay.specs.Plain.{Event, eventTests, registerTests}
+use Rattle.tracefile.specs.declared.Answer.{Answer}
+use Rattle.tracefile.specs.declared.Contents.{Contents}
+use Rattle.tracefile.specs.declared.Contents.the-variants.{Broken, Bodies}
+use Rattle.tracefile.specs.declared.Found.the-variants as found
+use Rattle.tracefile.specs.Answers.{nothing, unless}
+
+-- 71 by the first 16 bytes: too few of them, where the bodies start, a register of no whole rows
+abbrev pub contentsTests : List ℕ → List (Bool × ℕ)
+contentsTests b =
+    (ltb (length b) 16, 71)
+    ∷ (not (eqb (word b 0) 16), 71)
+    ∷ (not (eqb (word b 8) (16 + word b 4)), 71)
+    ∷ (not (eqb (word b 4 % 4) 0), 71)
+    ∷ []
+
+-- the lengths of the two bodies, by the first 16 bytes
+unfoldable pub contentsOf : List ℕ → Contents
+contentsOf b = pick (eqb (first (contentsTests b)) 0) (Bodies (word b 4) (word b 12)) Broken
+
+-- 71 in any of its causes: the last is a register that the file's end cuts short
+abbrev pub shapeTests : List ℕ → List (Bool × ℕ)
+shapeTests f = contentsTests f ++ (ltb (length f) (16 + word f 4), 71) ∷ []
+
+-- the kind of each object
+unfoldable pub registerOf : List ℕ → List ℕ
+registerOf f = wordsOf (take (word f 4) (drop 16 f))
+
+-- opening a trail file: 71, then 11 and 12
+unfoldable pub traceCode : Net → List ℕ → ℕ
+traceCode N f = first (shapeTests f ++ registerTests N (registerOf f))
+
+-- n numbers from byte i on
+abbrev pub objectsAt : List ℕ → ℕ → ℕ → List ℕ
+objectsAt b i zero = []
+objectsAt b i (suc n) = word b i ∷ objectsAt b (i + 4) n
+
+-- the event whose first byte is byte i: activity, number of objects, objects
+abbrev pub eventAt : List ℕ → ℕ → Event
+eventAt b i = record { act = word b i; objs = objectsAt b (i + 8) (word b (i + 4)) }
+
+-- Position `at` of the events body is byte `from` of the bytes b, with which the file ends. At the body's end: 73 where
+-- there are bytes behind it.
+abbrev pub endTests : List ℕ → ℕ → List (Bool × ℕ)
+endTests b from = (ltb from (length b), 73) ∷ []
+
+abbrev pub endFound : List ℕ → ℕ → ℕ → Answer
+endFound b from at = unless (first (endTests b from)) (nothing found.End at) at
+
+-- the event at byte `from`, and the next position
+abbrev pub eventFound : List ℕ → ℕ → ℕ → Answer
+eventFound b from at =
+    record {
+      found = found.Event;
+      event = record {
+        activity = word b from;
+        count = word b (from + 4);
+        objects = sets (replicate 8 0) 0 (objectsAt b (from + 8) (word b (from + 4)));
+      };
+      next = record { at = at + 8 + 4 * word b (from + 4) };
+    }
+
+-- reading in an events body of `body` bytes; `ks` is the register, `accepted` the number of events accepted before
+module _ (N : Net) (ks : List ℕ) (accepted : ℕ) (b : List ℕ) (from body at : ℕ) where
+  -- not at the body's end: the first two numbers in body and file; 21 to 24, of which 21 is for a closed trail and never applies; the
+  -- objects in body and file; 25 to 27
+  abbrev pub readTests : List (Bool × ℕ)
+  readTests =
+      let es : List (Bool × ℕ) = eventTests N ks 0 accepted (eventAt b from) in
+      (ltb body at, 73)
+      ∷ (ltb body (at + 8), 73)
+      ∷ (ltb (length b) (from + 8), 73)
+      ∷ take 4 es
+      ++ (ltb body (at + 8 + 4 * word b (from + 4)), 73)
+      ∷ (ltb (length b) (from + 8 + 4 * word b (from + 4)), 73)
+      ∷ drop 4 es
+
+  -- the number of the refusal; 0 where an event or the body's end is found
+  unfoldable pub readCode : ℕ
+  readCode = pick (eqb at body) (first (endTests b from)) (first readTests)
+
+  -- what is found: the event, the end of the body, or a refusal
+  unfoldable pub readFrom : Answer
+  readFrom =
+      pick (eqb at body) (endFound b from at) (unless (first readTests) (eventFound b from at) at)
+
+-- reading at a position of a trail file's events body: the number, and what is found
+unfoldable pub readAtCode : Net → List ℕ → ℕ → List ℕ → ℕ → ℕ
+readAtCode N ks accepted f at =
+    pick (eqb (first (shapeTests f)) 0) (readCode N ks accepted f (16 + word f 4 + at) (word f 12) at) (first (shapeTests f))
+
+unfoldable pub readAt : Net → List ℕ → ℕ → List ℕ → ℕ → Answer
+readAt N ks accepted f at = unless (first (shapeTests f)) (readFrom N ks accepted f (16 + word f 4 + at) (word f 12) at) at

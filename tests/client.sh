@@ -1,0 +1,13 @@
+#!/usr/bin/env bash
+# The C functions of libclient.a against the oracle.   client.sh [ROUNDS] [SEED]
+set -eu
+cd "$(dirname "$0")/.."
+if ! grep -q '^client:' crates.txt; then
+    echo "crates.txt has no crate client yet: nothing was tested"
+    exit 0
+fi
+work=$(mktemp -d)
+trap 'rm -rf "$work"' EXIT
+rt staticlib client
+rustc --edition 2021 -O -D warnings -L target/staticlib -l static=client tests/client.rs -o "$work/client_test"
+"$work/client_test" "$@"
