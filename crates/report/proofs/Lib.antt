@@ -4,4 +4,5 @@ mod FitnessLaws
 mod LineLaws
 mod TrailLaws
 mod NextLaws
+pub mod SheetLaws
 pub mod RowsHold

@@ -3,5 +3,6 @@ pub mod Decimal
 pub mod Fitness
 pub mod Lines
 pub mod Answer
-pub mod Rows
 pub mod TrailLines
+pub mod Sheet
+pub mod Rows

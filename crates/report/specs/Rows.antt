@@ -4,9 +4,12 @@ use Prim.Native.String.{String}
 use mathlib.Core.Path.{_≡_}
 use mathlib.Core.List.{List, [], _∷_}
 use Rattle.words.specs.Lists.{All}
+use Rattle.replay.specs.Plain.{close, start, run}
+use Rattle.replay.specs.Rows.{M, ev, three}
 use Rattle.report.specs.Text.{ascii}
 use Rattle.report.specs.Fitness.{fitness, fitnessText}
 use Rattle.report.specs.Lines.{trailLine, placeLine, actLine, jumpLine}
+use Rattle.report.specs.Sheet.{sheetOf}
 
 pub record Row : Type 0 where
   pub gives : List ℕ
@@ -37,6 +40,15 @@ rounding =
     ∷ record { gives = fitnessText (fitness 1 3); text = "0.666" }
     ∷ record { gives = fitnessText (fitness 1 100000); text = "0.999" }
     ∷ record { gives = fitnessText (fitness 0 0); text = "-" }
+    ∷ []
+
+-- the whole sheet of T4, from its events and its close on table M
+unfoldable pub whole : List Row
+whole =
+    record {
+      gives = sheetOf M (run M (start three) (ev 0 (0 ∷ []) ∷ ev 1 (1 ∷ []) ∷ ev 2 (0 ∷ 1 ∷ []) ∷ ev 2 (0 ∷ 2 ∷ []) ∷ ev 3 (0 ∷ []) ∷ close ∷ []));
+      text = "trail 3 5 1 10 0.900\nplace 0 1 0 0 1.000\nplace 1 3 0 0 1.000\nplace 2 1 0 0 1.000\nplace 3 1 0 1 1.000\nplace 4 2 1 0 0.500\nplace 5 2 0 0 1.000\nact 0 1 1 0 1.000\nact 1 1 1 0 1.000\nact 2 2 4 1 0.750\nact 3 1 1 0 1.000\njump 3 4 1\n";
+    }
     ∷ []
 
 -- the claim: each row gives its text

@@ -9,6 +9,7 @@ ghost use Rattle.report.specs.Decimal.{decimal};
 ghost use Rattle.report.specs.Fitness.{fitness, fitnessText};
 ghost use Rattle.report.specs.Lines.{wordText, fieldText};
 
+// The first word of a line.
 pub enum Word {
     Trail,
     Place,
@@ -17,13 +18,16 @@ pub enum Word {
     Refused,
 }
 
+// A field of a line, behind one space.
 pub enum Field {
+    // Left out.
     Nothing,
     Number(u64),
     // FIT of these jumps and transfers.
     Fitness(u32, u32),
 }
 
+// How many bytes the word takes.
 pub(crate) fn word_width(w: Word) -> usize
     ensures { λ r. ⌜ (r ≡ length (wordText w)) × (r ≤ 7) ⌝ }
 {

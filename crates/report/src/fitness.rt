@@ -24,6 +24,7 @@ fn kept(jumps: u32, transfers: u32) -> u64
     }
 }
 
+// The thousandths where there are transfers: the one place where FIT is rounded.
 fn rounded(jumps: u32, transfers: u32) -> u32
     requires { ⌜ 1 ≤ transfers ⌝ }
     ensures { λ r. ⌜ (r ≡ thousandths jumps transfers) × (r ≤ 1000) ⌝ }
@@ -31,6 +32,7 @@ fn rounded(jumps: u32, transfers: u32) -> u32
     (1000 * kept(jumps, transfers) / (transfers as u64)) as u32
 }
 
+// FIT of so many jumps in so many transfers.
 pub fn fitness_of(jumps: u32, transfers: u32) -> Fitness
     ensures { λ r. ⌜ r ≡ fitness jumps transfers ⌝ }
 {

@@ -53,6 +53,7 @@ fn write_line(w: Word, fs: [Field; 5], out: &mut [u8]) -> LineAnswer
     LineAnswer::Written(n)
 }
 
+// `trail`: register size, events, jumps, transfers, FIT.
 pub fn trail_line(
     objects: u32,
     events: u32,
@@ -72,6 +73,7 @@ pub fn trail_line(
     write_line(Word::Trail, fs, out)
 }
 
+// `place`: number, TAKEN, IN, OUT, FIT.
 pub fn place_line(
     place: u32,
     consumed: u32,
@@ -91,6 +93,7 @@ pub fn place_line(
     write_line(Word::Place, fs, out)
 }
 
+// `act`: number, FIRED, MOVED, JUMPS, FIT.
 pub fn act_line(act: u32, fired: u32, moved: u32, jumps: u32, out: &mut [u8]) -> LineAnswer
     ensures { λ r. ⌜ Writes [] (actLine act fired moved jumps) (now (out .entry)) r (now (out .exit)) ⌝ }
 {
@@ -104,7 +107,7 @@ pub fn act_line(act: u32, fired: u32, moved: u32, jumps: u32, out: &mut [u8]) ->
     write_line(Word::Act, fs, out)
 }
 
-// Nothing is written for a pair that has no jumps.
+// `jump`: from, to, count. Nothing is written for a pair that has no jumps.
 pub fn jump_line(from: u32, to: u32, count: u32, out: &mut [u8]) -> LineAnswer
     ensures { λ r. ⌜ Writes [] (jumpLine from to count) (now (out .entry)) r (now (out .exit)) ⌝ }
 {
@@ -121,6 +124,7 @@ pub fn jump_line(from: u32, to: u32, count: u32, out: &mut [u8]) -> LineAnswer
     write_line(Word::Jump, fs, out)
 }
 
+// `refused`: the number of the refusal, and the events accepted before it.
 pub fn refused_line(code: u32, events: u32, out: &mut [u8]) -> LineAnswer
     ensures { λ r. ⌜ Writes [] (refusedLine code events) (now (out .entry)) r (now (out .exit)) ⌝ }
 {

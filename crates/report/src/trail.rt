@@ -27,6 +27,7 @@ pub enum NextJump {
     Pair(u32, u32, u32),
 }
 
+// The line of the whole trail, of an open one too.
 pub fn trail_line(rec: &[u8], t: &[u32; 1684], out: &mut [u8]) -> LineAnswer
     requires { ⌜ Ready (now t) (now rec) ⌝ }
     ensures { λ r. ⌜ Writes [] (trailLineAt (now (rec .entry))) (now (out .entry)) r (now (out .exit)) ⌝ }
