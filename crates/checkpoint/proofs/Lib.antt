@@ -1,0 +1,14 @@
+pub mod RowsHold
+pub mod Spans
+pub mod Judged
+pub mod Restored
+pub mod Demands
+pub mod Copies
+pub mod Totals
+pub mod Placing
+pub mod Adding
+pub mod Taking
+pub mod Counting
+pub mod Jumping
+pub mod Verdicts
+pub mod Opening

@@ -1,0 +1,7 @@
+pub mod Restore
+pub mod Calls
+pub mod Demand
+pub mod Rows
+pub mod Answers
+pub mod Take
+pub mod Judge

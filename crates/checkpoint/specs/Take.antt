@@ -1,0 +1,43 @@
+-- Taking up a record into lent bytes, and the work words of its check.
+use Prim.Native.Nat.{ℕ, _≤_}
+use mathlib.Core.Bool.{Bool, true}
+use mathlib.Core.Path.{_≡_}
+use mathlib.Core.List.{List, [], _∷_, _++_}
+use lib.ListN.{length}
+use lib.Dec.{ltb, eqb}
+use Rattle.words.specs.Lists.{pick}
+use Rattle.words.specs.Refusals.{first}
+use Rattle.words.specs.Words.{bodiesOf, endsAt}
+use Rattle.net.specs.Table.{loadCode}
+use Rattle.net.specs.Held.{netIn, afterLoad, Held}
+use Rattle.replay.specs.Record.{tableIn}
+use Rattle.replay.specs.Calls.{netAt, over}
+use Rattle.checkpoint.specs.Restore.{tests41, tests42, restoreTests}
+
+-- none of 41 and 42 applies to the record b
+pub record Framed (b : List ℕ) : Type 0 where
+  pub size-ge : 40 ≤ length b
+  pub size-le : length b ≤ 29844
+  pub laid : endsAt (length b) (bodiesOf 5 b) ≡ true
+
+-- none of 41 to 43 applies to it, and the words w hold its net
+pub record Opened (b w : List ℕ) : Type 0 where
+  pub framed : Framed b
+  pub loads : loadCode (tableIn b) ≡ 0
+  pub held : Held w
+  pub net : netIn w ≡ netAt b
+
+-- The words w after a check of the record b: its table is loaded into them where none of 41 and 42 applies.
+unfoldable pub checkedWords : List ℕ → List ℕ → List ℕ
+checkedWords b w = pick (eqb (first (tests41 b ++ tests42 b)) 0) (afterLoad (tableIn b) w) w
+
+-- 41 to 47; 61: the lent part, of `room` bytes, is shorter than the record r
+abbrev pub takeTests : List ℕ → ℕ → List (Bool × ℕ)
+takeTests r room = restoreTests r ++ ((ltb room (length r), 61) ∷ [])
+
+unfoldable pub takeCode : List ℕ → ℕ → ℕ
+takeCode r room = first (takeTests r room)
+
+-- the lent bytes after the record r is taken up into them
+unfoldable pub takeBytes : List ℕ → List ℕ → List ℕ
+takeBytes r lent = pick (eqb (takeCode r (length lent)) 0) (over r lent) lent
