@@ -1,17 +1,16 @@
 -- Sums and searches below a number, and numbers by turns. Assumes nothing.
-use Prim.Native.Nat.{ℕ, zero, suc, _+_, _*_, _≤_, _<_}
+use Prim.Native.Nat.{ℕ, zero, suc, _+_, _*_, _<_}
 use mathlib.Core.Bool.{Bool, true, false, not}
-use mathlib.Core.Path.{_≡_, refl, ap, ap₂, sym, _∙_}
+use mathlib.Core.Path.{_≡_, refl, ap, sym, _∙_}
 use mathlib.Core.List.{List, [], _∷_}
 use native.Mathlib.Omega.{arith}
 use native.Mathlib.Numerals.{add-one}
-use native.Mathlib.Nat.{zero-mul, suc-mul, add-comm}
+use native.Mathlib.Nat.{zero-mul, suc-mul}
 use lib.ListN.{getD, drop}
 use lib.Seq.{getD-drop}
 use lib.Dec.{eqb}
-use borrow.Author.Tests.{eq-eqb}
-use Rattle.words.specs.Lists.{pick, any, anyTo, sumTo}
-use Rattle.words.proofs.Lists.{clash, is-eq, not-eqb, anyTo-none, anyTo-false}
+use Rattle.words.specs.Lists.{anyTo, sumTo}
+use Rattle.words.proofs.Lists.{is-eq, not-eqb, anyTo-none, anyTo-false}
 use Rattle.words.proofs.Sums.{sumTo-same, sumTo-zero, sumTo-add, term-le}
 use Rattle.replay.specs.Record.{evens, odds}
 

@@ -1,7 +1,7 @@
 -- The number of the bodies' first refusal, test by test. Assumes nothing.
 use Prim.Native.Nat.{ℕ, _%_}
 use mathlib.Core.Bool.{Bool, true, false, not}
-use mathlib.Core.Path.{_≡_, refl, ap, sym, _∙_}
+use mathlib.Core.Path.{_≡_, refl, ap, _∙_}
 use mathlib.Core.List.{List, [], _∷_, _++_}
 use lib.ListN.{length}
 use lib.Dec.{eqb}
@@ -11,7 +11,7 @@ use Rattle.words.specs.Refusals.{first}
 use Rattle.words.specs.Words.{wordsOf}
 use Rattle.net.specs.Net.{Net}
 use Rattle.replay.specs.Plain.{registerCode}
-use Rattle.checkpoint.specs.Restore.{both, tests45, tests46, tests47}
+use Rattle.checkpoint.specs.Restore.{tests45, tests46, tests47}
 use Rattle.checkpoint.specs.Judge.{hit, bodyState, beginsOne, judgeCode, judgeSecond}
 
 -- tests that all give n

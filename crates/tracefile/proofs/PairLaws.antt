@@ -4,11 +4,10 @@ use mathlib.Core.Bool.{Bool, true, false}
 use mathlib.Core.Path.{_≡_, ap, sym, _∙_}
 use mathlib.Core.List.{List, [], _∷_}
 use native.Mathlib.Numerals.{add-one}
-use lib.ListN.{length, getD, set, take, drop, drop-of-length-le}
-use lib.Seq.{sets, drop-cons, getD-take, length-take-le}
+use lib.ListN.{length, getD, take, drop, drop-of-length-le}
+use lib.Seq.{drop-cons, getD-take, length-take-le}
 use borrow.Author.Tests.{eq-eqb, ne-eqb}
 use Rattle.words.specs.Lists.{pick, any, has, twice}
-use Rattle.replay.specs.Plain.{kindsOf}
 
 module _ (l : List ℕ) (n : ℕ) (fits : n ≤ length l) where
   -- what stands from j on
@@ -47,7 +46,3 @@ module _ (l : List ℕ) (n : ℕ) (fits : n ≤ length l) where
 
     pub search-end : n ≤ i → false ≡ any f (drop i (take n l))
     search-end h = sym (ap (any f) (left-none i h))
-
-  -- one more kind is stored
-  pub kinds-more : (ks xs : List ℕ) (i x : ℕ) → i < n → x ≡ getD ks (getD l i 0) 0 → sets (set xs i x) (i + 1) (kindsOf ks (drop (i + 1) (take n l))) ≡ sets xs i (kindsOf ks (drop i (take n l)))
-  kinds-more ks xs i x h e = rw (left-cons i h, e, add-one)

@@ -7,7 +7,7 @@ use words::word_at;
 ghost use mathlib.Core.Bool.{not, false};
 ghost use mathlib.Core.Path.{_≡_};
 ghost use Prim.Native.Nat.{ℕ, _+_, _*_, _≤_, _<_};
-ghost use lib.ListN.{length, getD, take, replicate};
+ghost use lib.ListN.{length, getD, take};
 ghost use lib.Dec.{leb};
 ghost use lib.Seq.{sets};
 ghost use Rattle.words.specs.Lists.{any, twice};
@@ -19,35 +19,28 @@ ghost use Rattle.replay.specs.Plain.{kindsOf};
 ghost use Rattle.tracefile.specs.Parts.{Known, kindTests, objectTests};
 ghost use Rattle.tracefile.specs.Trace.{objectsAt};
 
-// The n numbers from byte 8 of the window on, and zeros behind them.
-pub fn objects_at(window: &[u8], n: usize) -> [u32; 8]
-    requires { ⌜ n ≤ 8 ⌝ }
-    requires { ⌜ 8 + 4 * n ≤ length (now window) ⌝ }
-    ensures { λ r. ⌜ r ≡ sets (replicate 8 0) 0 (objectsAt (now (window .entry)) 8 n) ⌝ }
-{
-    let mut objects = [0u32; 8];
-    let mut i: usize = 0;
-    while i < n {
-        objects[i] = word_at(window, 8 + 4 * i);
-        i += 1;
-    }
-    objects
-}
-
-// The kinds of the first n objects into `kinds`. True, and 25, where one of them is unknown.
-fn kinds_of(objects: &[u32; 8], n: usize, register: &[u8], kinds: &mut [u32; 8]) -> bool
-    requires { ⌜ (n ≤ 8) × (length (now objects) ≡ 8) ⌝ }
-    ensures unknown { λ r. ⌜ r ≡ any (λ (o : ℕ). leb (length (wordsOf (now (register .entry)))) o) (take n (now (objects .entry))) ⌝ }
-    ensures kinds { λ r. ⌜ (r ≡ false → now (kinds .exit) ≡ sets (now (kinds .entry)) 0 (kindsOf (wordsOf (now (register .entry))) (take n (now (objects .entry))))) ⌝ }
+// The n objects from byte 8 of the window on, and their kinds. True, and 25, where one of them is unknown.
+fn take_objects(
+    window: &[u8],
+    n: usize,
+    register: &[u8],
+    objects: &mut [u32; 8],
+    kinds: &mut [u32; 8],
+) -> bool
+    requires { ⌜ (n ≤ 8) × (8 + 4 * n ≤ length (now window)) ⌝ }
+    ensures unknown { λ r. ⌜ r ≡ any (λ (o : ℕ). leb (length (wordsOf (now (register .entry)))) o) (objectsAt (now (window .entry)) 8 n) ⌝ }
+    ensures objects { λ r. ⌜ (r ≡ false → now (objects .exit) ≡ sets (now (objects .entry)) 0 (objectsAt (now (window .entry)) 8 n)) ⌝ }
+    ensures kinds { λ r. ⌜ (r ≡ false → now (kinds .exit) ≡ sets (now (kinds .entry)) 0 (kindsOf (wordsOf (now (register .entry))) (objectsAt (now (window .entry)) 8 n))) ⌝ }
 {
     let size = register.len() / 4;
     let mut i: usize = 0;
     while i < n {
-        let o = wide(objects[i]);
-        if size <= o {
+        let o = word_at(window, 8 + 4 * i);
+        if size <= wide(o) {
             return true;
         }
-        kinds[i] = get_word(register, o);
+        objects[i] = o;
+        kinds[i] = get_word(register, wide(o));
         i += 1;
     }
     false
@@ -107,21 +100,23 @@ fn refuse_kinds(kinds: &[u32; 8], n: usize, act: usize, t: &[u32; 1684]) -> u32
     0
 }
 
-// 25, 26, 27 or 0, by the first n objects.
+// 25, 26, 27 or 0, by the n objects from byte 8 of the window on. Where it is 0, they are put into `objects`.
 pub fn refuse_objects(
-    objects: &[u32; 8],
+    window: &[u8],
     n: usize,
     act: usize,
     register: &[u8],
     t: &[u32; 1684],
+    objects: &mut [u32; 8],
 ) -> u32
     requires { ⌜ Held (now t) ⌝ }
     requires { ⌜ Known (netIn (now t)) (wordsOf (now register)) ⌝ }
-    requires { ⌜ (n ≤ 8) × (length (now objects) ≡ 8) × (act < netIn (now t) .acts) ⌝ }
-    ensures { λ r. ⌜ r ≡ first (objectTests (netIn (now (t .entry))) (wordsOf (now (register .entry))) act (take n (now (objects .entry)))) ⌝ }
+    requires { ⌜ (n ≤ 8) × (8 + 4 * n ≤ length (now window)) × (act < netIn (now t) .acts) ⌝ }
+    ensures code { λ r. ⌜ r ≡ first (objectTests (netIn (now (t .entry))) (wordsOf (now (register .entry))) act (objectsAt (now (window .entry)) 8 n)) ⌝ }
+    ensures objects { λ r. ⌜ (r ≡ 0 → now (objects .exit) ≡ sets (now (objects .entry)) 0 (objectsAt (now (window .entry)) 8 n)) ⌝ }
 {
     let mut kinds = [0u32; 8];
-    if kinds_of(objects, n, register, &mut kinds) {
+    if take_objects(window, n, register, objects, &mut kinds) {
         return 25;
     }
     refuse_kinds(&kinds, n, act, t)

@@ -1,9 +1,9 @@
 -- The part that is loaded is the record's table. Assumes nothing.
 use Prim.Native.Nat.{ℕ, _+_, _-_}
 use mathlib.Core.List.{List}
-use mathlib.Core.Path.{_≡_, ap, ap₂, sym, subst, _∙_}
+use mathlib.Core.Path.{_≡_, ap, sym, subst, _∙_}
 use native.Mathlib.Omega.{arith}
-use lib.ListN.{length, take, drop}
+use lib.ListN.{take, drop}
 use Rattle.words.specs.Words.{word}
 use Rattle.net.specs.Table.{loadCode}
 use Rattle.net.specs.Held.{afterLoad}

@@ -1,5 +1,4 @@
 -- A refusal is the check's and changes nothing; where there is none, the record is put into the trail. Assumes nothing.
-use Prim.Native.Nat.{ℕ}
 use mathlib.Core.Bool.{false}
 use mathlib.Core.Path.{_≡_, refl, ap, sym, _∙_}
 use lib.ListN.{length}

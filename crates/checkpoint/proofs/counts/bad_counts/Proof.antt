@@ -1,5 +1,5 @@
 -- The first test that holds decides; where the length is right, each number read is there. Assumes nothing.
-use Prim.Native.Nat.{ℕ, _+_, _*_, _≤_, _<_}
+use Prim.Native.Nat.{ℕ, _+_, _*_, _≤_}
 use mathlib.Core.Bool.{not}
 use mathlib.Core.List.{[], _∷_}
 use mathlib.Core.Path.{_≡_, ap, ap₂, sym, _∙_}

@@ -1,8 +1,8 @@
 -- The sum so far is that of the first a numbers, each below 2 to the power 32. Assumes nothing.
-use Prim.Native.Nat.{ℕ, _+_, _-_, _*_, _≤_, _<_}
+use Prim.Native.Nat.{ℕ, _+_, _-_, _*_, _≤_}
 use mathlib.Core.Path.{_≡_, refl, ap, _∙_}
 use native.Mathlib.Omega.{arith}
-use lib.ListN.{length, getD}
+use lib.ListN.{getD}
 use Rattle.words.specs.Lists.{sumTo}
 use Rattle.words.specs.Words.{wordsOf}
 use Rattle.checkpoint.proofs.Totals.{sum-more}

@@ -1,5 +1,4 @@
 -- The columns below y have their counts; the sum of those that no jump can have is that of the columns below y. Assumes nothing.
-use mathlib.Core.List.{List}
 use lib.Dec.{eqb}
 use Rattle.words.specs.Lists.{pick}
 use Rattle.net.proofs.HeldLaws.{held-loaded}

@@ -1,7 +1,7 @@
 -- The first test that holds decides; the columns' sums are IN of each place. Assumes nothing.
 use Prim.Native.Nat.{ℕ, _+_, _*_, _≤_, _<_}
-use mathlib.Core.List.{List, []}
-use mathlib.Core.Path.{_≡_, refl, ap, ap₂, sym, subst, _∙_}
+use mathlib.Core.List.{[]}
+use mathlib.Core.Path.{_≡_, ap, ap₂, sym, subst, _∙_}
 use native.Mathlib.Omega.{arith}
 use native.Mathlib.Nat.{zero-add}
 use lib.ListN.{length, getD}

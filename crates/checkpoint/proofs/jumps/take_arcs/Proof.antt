@@ -6,7 +6,7 @@ use Rattle.net.proofs.HeldLaws.{held-loaded}
 use Rattle.checkpoint.proofs.Totals.{sum-more}
 use Rattle.checkpoint.proofs.Adding.{added-same, added-then, added-most, most-le}
 use Rattle.checkpoint.proofs.Taking.{taken-le, taken-inputs}
-use Prim.Native.Nat.{ℕ, _+_, _-_, _*_, _≤_, _<_}
+use Prim.Native.Nat.{ℕ, _+_, _-_, _*_, _≤_}
 use native.Mathlib.Omega.{arith}
 use Rattle.words.specs.Lists.{sumTo}
 use Rattle.net.specs.Held.{netIn}
