@@ -1,8 +1,8 @@
 // The close of a trail in lent bytes: refused with 31, or carried out in place.
 
+use crate::moves::move_object;
 use replay::layout::Layout;
 use replay::layout::read_layout;
-use crate::moves::move_object;
 ghost use mathlib.Core.Path.{_≡_};
 ghost use lib.ListN.{length};
 ghost use Rattle.words.specs.Lists.{upto};

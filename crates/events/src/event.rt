@@ -1,9 +1,9 @@
 // An event on a trail in lent bytes: refused with the first number from 21 to 27 that applies, or carried out in place.
 
-use replay::layout::Layout;
-use replay::layout::read_layout;
 use crate::moves::add_one;
 use crate::moves::move_object;
+use replay::layout::Layout;
+use replay::layout::read_layout;
 ghost use mathlib.Core.Path.{_≡_};
 ghost use mathlib.Core.Bool.{false, not};
 ghost use Prim.Native.Nat.{ℕ, _≤_, _<_};
