@@ -25,7 +25,7 @@ any-same n f g h =
     same-false _ _ (λ e. anyTo-false n g (λ i l. sym (h i l) ∙ anyTo-none n f e i l)) (λ e. anyTo-false n f (λ i l. h i l ∙ anyTo-none n g e i l))
 
 -- where no test holds, each one fails
-pub hit-none : (ts : List (Bool × ℕ)) → hit ts ≡ false → None ts
+hit-none : (ts : List (Bool × ℕ)) → hit ts ≡ false → None ts
 hit-none ts e = any-none (λ (t : Bool × ℕ). t .0) (λ (t : Bool × ℕ). t .0 ≡ false) (λ t q. q) ts e
 
 -- 46, of a register and a counts body of `size` bytes; W is the body's numbers

@@ -12,3 +12,5 @@ pub mod Counting
 pub mod Jumping
 pub mod Verdicts
 pub mod Opening
+pub mod Lent
+pub mod Taken

@@ -9,7 +9,7 @@ use lib.Dec.{eqb}
 use borrow.Author.Tests.{eq-eqb, ne-eqb}
 use Rattle.words.specs.Lists.{pick, All, has, twice, one, total, sumTo}
 use Rattle.words.proofs.Lists.{clash, All-to}
-use Rattle.words.proofs.Sums.{sumTo-same, sumTo-zero, sumTo-add, sumTo-at, total-le, total-length}
+use Rattle.words.proofs.Sums.{sumTo-same, sumTo-zero, sumTo-add, sumTo-at}
 use Rattle.net.specs.Net.{Net, Arc, kindsOf, arcOf, GoodArc, Loaded}
 use Rattle.replay.specs.State.{inputs}
 use Rattle.checkpoint.specs.Judge.{takenBy}
@@ -51,11 +51,3 @@ module _ (N : Net) (q : ℕ) where
   module _ (L : Loaded N) (a : ℕ) (h : a < N .acts) where
     pub taken-inputs : sumTo (N .kinds) (takenBy N a q) ≡ inputs N q a
     taken-inputs = arcs-sum (N .kinds) (N .arcs a) (All-to (GoodArc N) (λ (x : Arc). N .kindOf (x .0) < N .kinds) (λ x g. L .kind-in (x .0) (g .inp)) (N .arcs a) (L .arc-good a h)) (L .arc-once a h)
-
-    pub inputs-le : inputs N q a ≤ 8
-    inputs-le =
-        omega (arith, total-le (λ (x : Arc). Unit) (λ (x : Arc). one (eqb q (x .0))) (λ (x : Arc). 1) (N .arcs a) (all (N .arcs a)) (λ x u. one-le (eqb q (x .0))), total-length (N .arcs a), L .arcs-le a h)
-      where
-        all : (xs : List Arc) → All (λ (x : Arc). Unit) xs
-        all [] = tt
-        all (x ∷ xs) = (tt, all xs)

@@ -15,7 +15,7 @@ use Rattle.checkpoint.specs.Restore.{tests45, tests46, tests47}
 use Rattle.checkpoint.specs.Judge.{hit, bodyState, beginsOne, judgeCode, judgeSecond}
 
 -- tests that all give n
-pub first-hit : (n : ℕ) (ts rest : List (Bool × ℕ)) → All (λ (t : Bool × ℕ). t .1 ≡ n) ts → first (ts ++ rest) ≡ pick (hit ts) n (first rest)
+first-hit : (n : ℕ) (ts rest : List (Bool × ℕ)) → All (λ (t : Bool × ℕ). t .1 ≡ n) ts → first (ts ++ rest) ≡ pick (hit ts) n (first rest)
 first-hit n [] rest a = refl
 first-hit n (t ∷ ts) rest a = go (t .0) (first-hit n ts rest (a .1))
   where
