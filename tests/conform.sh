@@ -2,10 +2,6 @@
 # The program against the oracle: examples, refusals, random, damaged and long inputs.   conform.sh [ROUNDS] [SEED]
 set -eu
 cd "$(dirname "$0")/.."
-if ! grep -q '^conform:' crates.txt; then
-    echo "crates.txt has no crate conform yet: nothing was tested"
-    exit 0
-fi
 work=$(mktemp -d)
 trap 'rm -rf "$work"' EXIT
 [ -x target/bin/conform ] || rt check conform

@@ -1,4 +1,5 @@
 pub mod Asked
+pub mod Kept
 pub mod Loops
 pub mod Sinks
 pub mod Steps

@@ -69,7 +69,7 @@ fn pairs_bytes(t: &[u32; 1684]) -> usize
 }
 
 // How many bytes the record takes, by those of the table and of the register.
-fn record_bytes(t: &[u32; 1684], table: usize, objects: usize) -> usize
+pub fn record_bytes(t: &[u32; 1684], table: usize, objects: usize) -> usize
     requires { ⌜ Held (now t) ⌝ }
     requires { ⌜ (table ≤ 4704) × (objects ≤ 4096) ⌝ }
     ensures { λ r. ⌜ r ≡ 40 + table + objects + objects + 4 * countsSize (netIn (now (t .entry))) + 4 * (netIn (now (t .entry)) .places * netIn (now (t .entry)) .places) ⌝ }

@@ -1,0 +1,3 @@
+pub mod Following
+pub mod Opening
+pub mod Written

@@ -1,0 +1,69 @@
+-- From the table file and the head of a trail file to a trail that is followed. Assumes nothing.
+use Prim.Native.Nat.{ℕ, _%_, _≤_}
+use mathlib.Core.Path.{_≡_, ap, sym, subst, _∙_}
+use mathlib.Core.List.{List}
+use native.Mathlib.Omega.{arith}
+use lib.ListN.{length, take}
+use lib.Dec.{ltb}
+use borrow.Author.Tests.{ltb-false, eq-eqb}
+use Rattle.words.specs.Lists.{pick}
+use Rattle.words.specs.Words.{word, wordsOf}
+use Rattle.words.proofs.Lists.{is-eq}
+use Rattle.words.proofs.Refusals.{first-none, none-apply}
+use Rattle.net.specs.Net.{Net}
+use Rattle.net.specs.Table.{netOf, loadCode}
+use Rattle.net.specs.Held.{netIn, afterLoad}
+use Rattle.net.proofs.HeldLaws.{loaded-held, held-net}
+use Rattle.replay.specs.Plain.{registerCode}
+use Rattle.replay.specs.State.{State}
+use Rattle.replay.specs.Calls.{startRecord, startCode, startBytes}
+use Rattle.starting.specs.Startable.{Startable}
+use Rattle.starting.proofs.Begun.{ready-start, state-start, start-front}
+use Rattle.tracefile.specs.declared.Contents.the-variants.{Bodies}
+use Rattle.tracefile.specs.Parts.{openCode}
+use Rattle.tracefile.specs.Trace.{contentsTests, contentsOf}
+use Rattle.tracefile.proofs.OpenLaws.{contents-bodies}
+use Rattle.conform.specs.Trail.{Tabled, Follows}
+
+-- a table that is loaded
+pub loaded-tabled : (table before t : List ℕ) → length before ≡ 1684 → loadCode table ≡ 0 → t ≡ afterLoad table before → Tabled t table
+unfolding afterLoad
+loaded-tabled table before t n z e =
+    rw (e, eq-eqb (loadCode table) 0 z) (record { held = loaded-held table before n z; net = held-net table before n z; taken = z })
+
+-- a register claims whole rows
+pub whole-rows : (f : List ℕ) (r e : ℕ) → contentsOf f ≡ Bodies r e → r % 4 ≡ 0
+whole-rows f r e p =
+    let q = contents-bodies f r e p in
+    ap (λ (n : ℕ). n % 4) (q .1) ∙ is-eq (word f 4 % 4) 0 (none-apply (contentsTests f) (omega arith) (q .0) .1 .1 .1 .0)
+
+-- a register that is not refused is wholly there
+pub not-refused : (N : Net) (claimed there : ℕ) (ks : List ℕ) → openCode N claimed there ks ≡ 0 → (claimed ≤ there) × (registerCode N ks ≡ 0)
+unfolding openCode
+not-refused N claimed there ks z =
+    let a = first-none (ltb there claimed) 71 (pick (ltb 4096 claimed) 11 (registerCode N ks)) (omega arith) z in
+    (ltb-false there claimed (a .0), first-none (ltb 4096 claimed) 11 (registerCode N ks) (omega arith) (a .1) .1)
+
+pub register-startable : (t table register : List ℕ) (claimed there : ℕ) → Tabled t table → claimed % 4 ≡ 0 → length register ≡ there → there ≤ claimed → openCode (netIn t) claimed there (wordsOf register) ≡ 0
+    → Startable t table register × (registerCode (netOf table) (wordsOf register) ≡ 0)
+register-startable t table register claimed there T m n h z =
+    let r = not-refused (netIn t) claimed there (wordsOf register) z in (
+      record { held = T .held; net = T .net; taken = T .taken; whole = omega (arith, r .0) },
+      ap (λ (N : Net). registerCode N (wordsOf register)) (sym (T .net)) ∙ r .1,
+    )
+
+-- a trail that is started is followed from its first event on
+module _ (t table register : List ℕ) (S : Startable t table register) (ok : registerCode (netOf table) (wordsOf register) ≡ 0) where
+  begun : Follows t (startRecord table (wordsOf register)) register 0
+  begun =
+      let e = state-start t table register S ok in
+      record {
+        ready = ready-start t table register S ok;
+        kinds = ap (λ (d : State). d .kinds) e;
+        still-open = ap (λ (d : State). d .closed) e;
+        events = ap (λ (d : State). d .events) e;
+      }
+
+  pub started-follows : (lent b : List ℕ) (n : ℕ) → startCode table (wordsOf register) (length lent) ≡ 0 → b ≡ startBytes table (wordsOf register) lent → n ≡ length (startRecord table (wordsOf register))
+      → Follows t (take n b) register 0
+  started-follows lent b n z e m = rw (m, e) (subst (λ (x : List ℕ). Follows t x register 0) (sym (start-front table (wordsOf register) lent z)) begun)
