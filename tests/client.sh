@@ -2,10 +2,6 @@
 # The C functions of libclient.a against the oracle.   client.sh [ROUNDS] [SEED]
 set -eu
 cd "$(dirname "$0")/.."
-if ! grep -q '^client:' crates.txt; then
-    echo "crates.txt has no crate client yet: nothing was tested"
-    exit 0
-fi
 work=$(mktemp -d)
 trap 'rm -rf "$work"' EXIT
 rt staticlib client

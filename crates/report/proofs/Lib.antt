@@ -1,8 +1,8 @@
 mod DecimalLaws
 mod OverLaws
 mod FitnessLaws
-mod LineLaws
-mod TrailLaws
+pub mod LineLaws
+pub mod TrailLaws
 mod NextLaws
 pub mod SheetLaws
 pub mod RowsHold

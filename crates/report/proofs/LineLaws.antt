@@ -47,14 +47,14 @@ module _ (line lent : List ℕ) where
   unfolding lineCode
   no-room h =
       let t = lt-ltb (length lent) (length line) h in
-      record { code = rw t; size = rw t; bytes = rw t }
+      record { code = rw t; size = rw t; few = omega arith; bytes = rw t }
 
-  pub with-room : (n : ℕ) (left : List ℕ) → length line ≤ length lent → n ≡ length line → left ≡ over line lent
+  pub with-room : (n : ℕ) (left : List ℕ) → length line ≤ length lent → n ≡ length line → n ≤ 113 → left ≡ over line lent
       → Writes [] line lent (Written n) left
   unfolding lineCode
-  with-room n left h e l =
+  with-room n left h e m l =
       let t = le-ltb (length lent) (length line) h in
-      record { code = rw t; size = rw t e; bytes = rw t l }
+      record { code = rw t; size = rw t e; few = m; bytes = rw t l }
 
   pub refused : (tests : List (Bool × ℕ)) (r : LineAnswer) → codeOf r ≡ first tests → 0 < codeOf r → sizeOf r ≡ 0
       → Writes tests line lent r lent
@@ -62,11 +62,11 @@ module _ (line lent : List ℕ) where
   refused tests r e p s =
       let f = first-stays tests ((ltb (length lent) (length line), 61) ∷ []) (λ z. omega (arith, e, z)) in
       let t = ne-eqb (lineCode tests line lent) 0 (λ z. omega (arith, e, f, z)) in
-      record { code = e ∙ sym f; size = rw t s; bytes = rw t }
+      record { code = e ∙ sym f; size = rw t s; few = omega arith; bytes = rw t }
 
   pub passed : (tests : List (Bool × ℕ)) (r : LineAnswer) (left : List ℕ) → first tests ≡ 0 → All (λ (t : Bool × ℕ). 0 < t .1) tests
       → Writes [] line lent r left → Writes tests line lent r left
   unfolding lineCode
   passed tests r left e p w =
       let f = first-then tests ((ltb (length lent) (length line), 61) ∷ []) e p in
-      record { code = rw f (w .code); size = rw f (w .size); bytes = rw f (w .bytes) }
+      record { code = rw f (w .code); size = rw f (w .size); few = w .few; bytes = rw f (w .bytes) }

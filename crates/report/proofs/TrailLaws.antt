@@ -19,11 +19,11 @@ use Rattle.counts.specs.declared.TrailCounts.{TrailCounts}
 use Rattle.report.specs.Lines.{trailLine, placeLine, actLine, jumpLine}
 use Rattle.report.specs.TrailLines.{trailLineAt, placeLineAt, actLineAt, jumpLineAt}
 
-place-held : (u : Bool) (v k : PlaceCounts) → pick u place.Unknown (place.Counts v) ≡ place.Counts k → k ≡ v
+pub place-held : (u : Bool) (v k : PlaceCounts) → pick u place.Unknown (place.Counts v) ≡ place.Counts k → k ≡ v
 place-held true v k e = absurd (let z : _≡_ {A = ℕ} 0 1 = cc in omega arith)
 place-held false v k e = cc
 
-act-held : (u : Bool) (v k : ActCounts) → pick u act.Unknown (act.Counts v) ≡ act.Counts k → k ≡ v
+pub act-held : (u : Bool) (v k : ActCounts) → pick u act.Unknown (act.Counts v) ≡ act.Counts k → k ≡ v
 act-held true v k e = absurd (let z : _≡_ {A = ℕ} 0 1 = cc in omega arith)
 act-held false v k e = cc
 

@@ -1,5 +1,5 @@
 -- Writing a line into a lent part: the number of the paper and the values for each answer, and what is left of the part.
-use Prim.Native.Nat.{ℕ}
+use Prim.Native.Nat.{ℕ, _≤_}
 use mathlib.Core.Bool.{Bool}
 use mathlib.Core.Path.{_≡_}
 use mathlib.Core.List.{List, [], _∷_, _++_}
@@ -30,8 +30,9 @@ unfoldable pub lineCode : List (Bool × ℕ) → List ℕ → List ℕ → ℕ
 lineCode tests line lent = first (tests ++ ((ltb (length lent) (length line), 61) ∷ []))
 
 -- writing the line into the bytes `lent`, behind the tests, is answered r and leaves `left`: the line and the other bytes
--- as they were, and on a refusal all bytes as they were
+-- as they were, and on a refusal all bytes as they were; no line has more than 113 bytes
 pub record Writes (tests : List (Bool × ℕ)) (line lent : List ℕ) (r : LineAnswer) (left : List ℕ) : Type 0 where
   pub code : codeOf r ≡ lineCode tests line lent
   pub size : sizeOf r ≡ pick (eqb (lineCode tests line lent) 0) (length line) 0
+  pub few : sizeOf r ≤ 113
   pub bytes : left ≡ pick (eqb (lineCode tests line lent) 0) (over line lent) lent

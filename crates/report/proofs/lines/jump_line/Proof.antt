@@ -12,7 +12,7 @@ use Rattle.report.proofs.lines.jump_line.Tie as tie
 returns : tie.Need-returns
 returns c =
     let a = c .before .before .args in
-    rw (eq-eqb (a .count) 0 (c .if1 .taken)) (with-room [] (a .out .now) _ _ (omega arith) refl refl)
+    rw (eq-eqb (a .count) 0 (c .if1 .taken)) (with-room [] (a .out .now) _ _ (omega arith) refl (omega arith) refl)
 
 write-line-requires : tie.Need-write-line-requires
 write-line-requires c κs = search needs

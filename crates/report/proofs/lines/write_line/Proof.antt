@@ -46,7 +46,7 @@ returns-2 c =
     let w = c .before .before .before .before .before .before in
     let a = w .before .before .before .before .before .before .args in
     let n = line-length (a .w) (a .fs) in
-    with-room (lineOf (a .w) (a .fs)) (a .out .now) _ _ (omega (arith, n)) (omega (arith, n))
+    with-room (lineOf (a .w) (a .fs)) (a .out .now) _ _ (omega (arith, n)) (omega (arith, n)) (omega arith)
     (part-back (w .put-word .last .1 .0) (w .put-word .result) (fieldsText (a .fs)) _ (c .before .before .put-fields .ensures)
     ∙ ap (λ xs. overAt (w .put-word .result) (fieldsText (a .fs)) xs) (w .put-word .ensures .1)
     ∙ behind-start (w .put-word .result) (wordText (a .w)) (fieldsText (a .fs)) (a .out .now) (w .put-word .ensures .0) (omega arith))

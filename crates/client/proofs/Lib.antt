@@ -1,0 +1,5 @@
+pub mod Checks
+pub mod Starts
+pub mod ObjectLaws
+pub mod ObjectsHold
+pub mod NumberLaws

@@ -1,0 +1,37 @@
+-- A refused trail stops the call; else the answer is that of the writing. Assumes nothing.
+use mathlib.Core.List.{List}
+use Prim.Native.Nat.{ℕ}
+use Rattle.counts.specs.Reads.{actTests}
+use Rattle.report.specs.TrailLines.{actLineAt}
+use Rattle.client.proofs.Checks.{write-stops, write-goes}
+use borrow.Author.Needs.{needs}
+use Rattle.client.proofs.conform_act_line.Statement.{statement}
+use Rattle.client.proofs.conform_act_line.Tie as tie
+
+checked-requires : tie.Need-checked-requires
+checked-requires c κs = search needs
+
+returns : tie.Need-returns
+returns c = let s = c .before .before .before .before .before in
+    let b : List ℕ = s .args .trail .now in
+    write-stops b _ _ (c .before .checked .ensures) (c .if1 .taken) (actTests b (s .args .activity)) (actLineAt b (s .args .activity)) (s .args .line .now)
+
+act-line-requires : tie.Need-act-line-requires
+act-line-requires c κs = c .before .before .before .checked .ensures .ready (c .before .before .if1 .left)
+
+written-requires : tie.Need-written-requires
+written-requires c κs = search needs
+
+same-length : tie.Need-same-length
+same-length c = search needs
+
+returns-2 : tie.Need-returns-2
+returns-2 c = let s = c .before .before .before .before .before .before .before .before .before .before .before in
+    let b : List ℕ = s .args .trail .now in
+    let k = c .before .before .before .before .before .before .before in
+    write-goes b _ _ (k .checked .ensures) (c .before .before .before .before .before .before .if1 .left) (actTests b (s .args .activity)) (actLineAt b (s .args .activity)) (s .args .line .now) _ _ _ (c .before .before .before .act-line .ensures) (c .written .ensures)
+
+pub conform-act-line-spec : {M : Type 1} → statement M
+conform-act-line-spec =
+    tie.close
+    (tie.spec checked-requires returns act-line-requires written-requires same-length returns-2)

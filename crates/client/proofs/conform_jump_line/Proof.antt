@@ -1,0 +1,37 @@
+-- A refused trail stops the call; else the answer is that of the writing. Assumes nothing.
+use mathlib.Core.List.{List}
+use Prim.Native.Nat.{ℕ}
+use Rattle.counts.specs.Reads.{pairTests}
+use Rattle.report.specs.TrailLines.{jumpLineAt}
+use Rattle.client.proofs.Checks.{write-stops, write-goes}
+use borrow.Author.Needs.{needs}
+use Rattle.client.proofs.conform_jump_line.Statement.{statement}
+use Rattle.client.proofs.conform_jump_line.Tie as tie
+
+checked-requires : tie.Need-checked-requires
+checked-requires c κs = search needs
+
+returns : tie.Need-returns
+returns c = let s = c .before .before .before .before .before in
+    let b : List ℕ = s .args .trail .now in
+    write-stops b _ _ (c .before .checked .ensures) (c .if1 .taken) (pairTests b (s .args .from) (s .args .to)) (jumpLineAt b (s .args .from) (s .args .to)) (s .args .line .now)
+
+jump-line-requires : tie.Need-jump-line-requires
+jump-line-requires c κs = c .before .before .before .checked .ensures .ready (c .before .before .if1 .left)
+
+written-requires : tie.Need-written-requires
+written-requires c κs = search needs
+
+same-length : tie.Need-same-length
+same-length c = search needs
+
+returns-2 : tie.Need-returns-2
+returns-2 c = let s = c .before .before .before .before .before .before .before .before .before .before .before in
+    let b : List ℕ = s .args .trail .now in
+    let k = c .before .before .before .before .before .before .before in
+    write-goes b _ _ (k .checked .ensures) (c .before .before .before .before .before .before .if1 .left) (pairTests b (s .args .from) (s .args .to)) (jumpLineAt b (s .args .from) (s .args .to)) (s .args .line .now) _ _ _ (c .before .before .before .jump-line .ensures) (c .written .ensures)
+
+pub conform-jump-line-spec : {M : Type 1} → statement M
+conform-jump-line-spec =
+    tie.close
+    (tie.spec checked-requires returns jump-line-requires written-requires same-length returns-2)

@@ -1,0 +1,23 @@
+-- The number of the table. Assumes nothing.
+use mathlib.Core.Path.{ap, _∙_}
+use Prim.Native.Nat.{ℕ}
+use Rattle.client.specs.Client.{packed, loadAnswer}
+use borrow.Author.Needs.{needs}
+use Rattle.client.proofs.conform_load.Statement.{statement}
+use Rattle.client.proofs.conform_load.Tie as tie
+
+load-requires : tie.Need-load-requires
+load-requires c κs = search needs
+
+load-code-requires : tie.Need-load-code-requires
+load-code-requires c κs = search needs
+
+pack-requires : tie.Need-pack-requires
+pack-requires c κs = search needs
+
+returns : tie.Need-returns
+unfolding loadAnswer
+returns c = c .pack .ensures ∙ ap (λ (n : ℕ). packed n 0) (c .before .load-code .ensures ∙ c .before .before .load .ensures .0)
+
+pub conform-load-spec : {M : Type 1} → statement M
+conform-load-spec = tie.close (tie.spec load-requires load-code-requires pack-requires returns)

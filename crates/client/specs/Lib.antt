@@ -1,0 +1,3 @@
+pub mod Client
+pub mod Checked
+pub mod Objects

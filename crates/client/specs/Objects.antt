@@ -1,0 +1,24 @@
+-- What document 01 asks of an event's object list in bytes: 24, in its place, unless it has one row for each arc.
+use Prim.Native.Nat.{ℕ, _%_}
+use mathlib.Core.Bool.{Bool, true, not}
+use mathlib.Core.Path.{_≡_}
+use mathlib.Core.List.{List, [], _∷_}
+use lib.ListN.{length}
+use lib.Dec.{eqb, leb}
+use Rattle.words.specs.Refusals.{first}
+use Rattle.words.specs.Words.{wordsOf}
+use Rattle.replay.specs.Calls.{netAt, stateAt}
+use Rattle.events.specs.Answers.{askEvent}
+use Rattle.client.specs.Client.{packed, onTrail, objectsIn, askAnswer, askLeaves}
+
+-- 21 to 24, for an event of activity a with a list that cannot have one row for each arc
+abbrev pub unevenTests : List ℕ → ℕ → List (Bool × ℕ)
+unevenTests b a = (not (eqb (stateAt b .closed) 0), 21) ∷ (leb 1000000 (stateAt b .events), 22) ∷ (leb (netAt b .acts) a, 23) ∷ (true, 24) ∷ []
+
+-- The trail b, activity a and the list s: a list of whole rows, however long, is the objects that it names; any other gives
+-- the first of 21 to 24 and changes nothing.
+pub record ObjectsRule (b : List ℕ) (a : ℕ) (s : List ℕ) : Type 0 where
+  pub whole-answer : length s % 4 ≡ 0 → askAnswer b (askEvent a (objectsIn s)) ≡ askAnswer b (askEvent a (wordsOf s))
+  pub whole-bytes : length s % 4 ≡ 0 → askLeaves b (askEvent a (objectsIn s)) ≡ askLeaves b (askEvent a (wordsOf s))
+  pub uneven-answer : (length s % 4 ≡ 0 → ⊥) → askAnswer b (askEvent a (objectsIn s)) ≡ onTrail b (packed (first (unevenTests b a)) 0)
+  pub uneven-bytes : (length s % 4 ≡ 0 → ⊥) → askLeaves b (askEvent a (objectsIn s)) ≡ b

@@ -1,0 +1,96 @@
+// The calls behind the check of what is lent: a trail to which none of 41 to 47 applies, a table that loads.
+
+use crate::answers::check_code;
+use crate::answers::check_second;
+use crate::answers::close_code;
+use crate::answers::event_code;
+use crate::answers::pack;
+use crate::answers::saved_code;
+use crate::answers::start_code;
+use crate::objects::count_objects;
+use crate::objects::object_at;
+ghost use mathlib.Core.Path.{_≡_};
+ghost use Prim.Native.Nat.{_≤_};
+ghost use lib.ListN.{length};
+ghost use Rattle.replay.specs.Calls.{askCode, askBytes};
+ghost use Rattle.replay.specs.Ready.{Ready};
+ghost use Rattle.starting.specs.Startable.{Startable};
+ghost use Rattle.events.specs.Answers.{askEvent, askClose};
+ghost use Rattle.checkpoint.specs.Calls.{saveCode, saveBytes};
+ghost use Rattle.client.specs.Client.{packed, wrote, startAnswer, startLeaves, objectsIn};
+ghost use Rattle.client.specs.Checked.{Checked, Loads};
+
+// 41 to 47 with the second number of 43 and 44. Where none applies it is 0, and the words t hold the trail's net.
+pub fn checked(trail: &[u8], t: &mut [u32; 1684]) -> u64
+    requires { ⌜ length (now t) ≡ 1684 ⌝ }
+    ensures { λ r. ⌜ Checked (now (trail .entry)) (now (t .exit)) r ⌝ }
+{
+    let r = checkpoint::check(trail, t);
+    pack(check_code(r), check_second(r))
+}
+
+pub fn put_event(trail: &mut [u8], t: &[u32; 1684], activity: u32, objects: &[u8]) -> u64
+    requires { ⌜ Ready (now t) (now trail) ⌝ }
+    ensures { λ r. ⌜ (r ≡ packed (askCode (now (trail .entry)) (askEvent activity (objectsIn (now (objects .entry))))) 0) × (now (trail .exit) ≡ askBytes (now (trail .entry)) (askEvent activity (objectsIn (now (objects .entry))))) ⌝ }
+{
+    let n = count_objects(objects);
+    let os = [
+        object_at(objects, n, 0),
+        object_at(objects, n, 1),
+        object_at(objects, n, 2),
+        object_at(objects, n, 3),
+        object_at(objects, n, 4),
+        object_at(objects, n, 5),
+        object_at(objects, n, 6),
+        object_at(objects, n, 7),
+        object_at(objects, n, 8),
+    ];
+    pack(
+        event_code(events::event::event(trail, t, activity, &os[..n])),
+        0,
+    )
+}
+
+pub fn put_close(trail: &mut [u8], t: &[u32; 1684]) -> u64
+    requires { ⌜ Ready (now t) (now trail) ⌝ }
+    ensures { λ r. ⌜ (r ≡ packed (askCode (now (trail .entry)) askClose) 0) × (now (trail .exit) ≡ askBytes (now (trail .entry)) askClose) ⌝ }
+{
+    pack(close_code(events::close::close(trail, t)), 0)
+}
+
+pub fn put_save(trail: &[u8], lent: &mut [u8]) -> u64
+    requires { ⌜ length (now trail) ≤ 29844 ⌝ }
+    ensures { λ r. ⌜ (r ≡ wrote (saveCode (now (trail .entry)) (length (now (lent .entry)))) (length (now (trail .entry)))) × (now (lent .exit) ≡ saveBytes (now (trail .entry)) (now (lent .entry))) ⌝ }
+{
+    let code = saved_code(checkpoint::save(trail, lent));
+    if code != 0 {
+        return pack(code, 0);
+    }
+    pack(0, trail.len() as u32)
+}
+
+// Starting with a register of whole rows.
+fn begin_rows(t: &[u32; 1684], table: &[u8], objects: &[u8], trail: &mut [u8]) -> u64
+    requires { ⌜ Startable (now t) (now table) (now objects) ⌝ }
+    ensures { λ r. ⌜ (r ≡ startAnswer (now (table .entry)) (now (objects .entry)) (length (now (trail .entry)))) × (now (trail .exit) ≡ startLeaves (now (table .entry)) (now (objects .entry)) (now (trail .entry))) ⌝ }
+{
+    let code = start_code(starting::start(t, table, objects, trail));
+    if code != 0 {
+        return pack(code, 0);
+    }
+    pack(
+        0,
+        starting::record_bytes(t, table.len(), objects.len()) as u32,
+    )
+}
+
+// Starting with a table that is loaded.
+pub fn begin(t: &[u32; 1684], table: &[u8], objects: &[u8], trail: &mut [u8]) -> u64
+    requires { ⌜ Loads (now t) (now table) ⌝ }
+    ensures { λ r. ⌜ (r ≡ startAnswer (now (table .entry)) (now (objects .entry)) (length (now (trail .entry)))) × (now (trail .exit) ≡ startLeaves (now (table .entry)) (now (objects .entry)) (now (trail .entry))) ⌝ }
+{
+    if objects.len() % 4 != 0 {
+        return 11;
+    }
+    begin_rows(t, table, objects, trail)
+}

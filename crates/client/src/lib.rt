@@ -1,0 +1,221 @@
+// The functions of the marking client, for C: numbers and byte slices, the trail held in lent bytes, which are its record.
+// Above all other libraries. Any bytes are taken or refused, 41 to 47 before a call's own numbers and 61 last.
+
+use crate::answers::load_code;
+use crate::answers::pack;
+use crate::answers::resumed_code;
+use crate::answers::resumed_second;
+use crate::answers::written;
+use crate::calls::begin;
+use crate::calls::checked;
+use crate::calls::put_close;
+use crate::calls::put_event;
+use crate::calls::put_save;
+use crate::numbers::act_numbers;
+use crate::numbers::pair_numbers;
+use crate::numbers::place_numbers;
+use crate::numbers::trail_numbers;
+ghost use mathlib.Core.Path.{_≡_};
+ghost use mathlib.Core.List.{[]};
+ghost use lib.ListN.{length};
+ghost use Rattle.events.specs.Answers.{askEvent, askClose};
+ghost use Rattle.counts.specs.Reads.{placeTests, actTests, pairTests};
+ghost use Rattle.checkpoint.specs.Take.{takeBytes};
+ghost use Rattle.report.specs.TrailLines.{trailLineAt, placeLineAt, actLineAt, jumpLineAt};
+ghost use Rattle.client.specs.Client.{loadAnswer, startAnswer, startLeaves, objectsIn, askAnswer, askLeaves, restoreAnswer, saveAnswer, saveLeaves, writeAnswer, writeLeaves, trailNumbers, placeNumbers, actNumbers, pairNumbers};
+
+mod answers;
+mod calls;
+mod numbers;
+mod objects;
+
+// Loads a table, to see whether it is taken: 1 to 9.
+#[no_mangle]
+pub extern "C" fn conform_load(table: &[u8]) -> u64
+    ensures { λ r. ⌜ r ≡ loadAnswer (now (table .entry)) ⌝ }
+{
+    let mut t = [0u32; 1684];
+    pack(load_code(loader::load(table, &mut t)), 0)
+}
+
+// Starts a trail: 1 to 9 of the table, 11 and 12 of the objects' kinds, and 61; or its record in front of the lent bytes.
+#[no_mangle]
+pub extern "C" fn conform_start(table: &[u8], objects: &[u8], trail: &mut [u8]) -> u64
+    ensures { λ r. ⌜ r ≡ startAnswer (now (table .entry)) (now (objects .entry)) (length (now (trail .entry))) ⌝ }
+    ensures { λ _. ⌜ now (trail .exit) ≡ startLeaves (now (table .entry)) (now (objects .entry)) (now (trail .entry)) ⌝ }
+{
+    let mut t = [0u32; 1684];
+    let refused = load_code(loader::load(table, &mut t));
+    if refused != 0 {
+        return pack(refused, 0);
+    }
+    begin(&t, table, objects, trail)
+}
+
+// An event on a trail: 21 to 27, or carried out in its bytes.
+#[no_mangle]
+pub extern "C" fn conform_event(trail: &mut [u8], activity: u32, objects: &[u8]) -> u64
+    ensures { λ r. ⌜ r ≡ askAnswer (now (trail .entry)) (askEvent activity (objectsIn (now (objects .entry)))) ⌝ }
+    ensures { λ _. ⌜ now (trail .exit) ≡ askLeaves (now (trail .entry)) (askEvent activity (objectsIn (now (objects .entry)))) ⌝ }
+{
+    let mut t = [0u32; 1684];
+    let refused = checked(trail, &mut t);
+    if refused != 0 {
+        return refused;
+    }
+    put_event(trail, &t, activity, objects)
+}
+
+// Closes a trail: 31, or carried out in its bytes.
+#[no_mangle]
+pub extern "C" fn conform_close(trail: &mut [u8]) -> u64
+    ensures { λ r. ⌜ r ≡ askAnswer (now (trail .entry)) askClose ⌝ }
+    ensures { λ _. ⌜ now (trail .exit) ≡ askLeaves (now (trail .entry)) askClose ⌝ }
+{
+    let mut t = [0u32; 1684];
+    let refused = checked(trail, &mut t);
+    if refused != 0 {
+        return refused;
+    }
+    put_close(trail, &t)
+}
+
+// Takes up a record: 41 to 47 and 61, or its bytes in front of the trail's.
+#[no_mangle]
+pub extern "C" fn conform_restore(saved: &[u8], trail: &mut [u8]) -> u64
+    ensures { λ r. ⌜ r ≡ restoreAnswer (now (saved .entry)) (length (now (trail .entry))) ⌝ }
+    ensures { λ _. ⌜ now (trail .exit) ≡ takeBytes (now (saved .entry)) (now (trail .entry)) ⌝ }
+{
+    let r = checkpoint::restore(saved, trail);
+    let refused = resumed_code(r);
+    if refused != 0 {
+        return pack(refused, resumed_second(r));
+    }
+    pack(0, saved.len() as u32)
+}
+
+// Puts down the record of a trail: 61, or in front of the lent bytes.
+#[no_mangle]
+pub extern "C" fn conform_save(trail: &[u8], lent: &mut [u8]) -> u64
+    ensures { λ r. ⌜ r ≡ saveAnswer (now (trail .entry)) (length (now (lent .entry))) ⌝ }
+    ensures { λ _. ⌜ now (lent .exit) ≡ saveLeaves (now (trail .entry)) (now (lent .entry)) ⌝ }
+{
+    let mut t = [0u32; 1684];
+    let refused = checked(trail, &mut t);
+    if refused != 0 {
+        return refused;
+    }
+    put_save(trail, lent)
+}
+
+// The line of the whole trail: 61, or the line in front of the lent bytes.
+#[no_mangle]
+pub extern "C" fn conform_trail_line(trail: &[u8], line: &mut [u8]) -> u64
+    ensures { λ r. ⌜ r ≡ writeAnswer (now (trail .entry)) [] (trailLineAt (now (trail .entry))) (now (line .entry)) ⌝ }
+    ensures { λ _. ⌜ now (line .exit) ≡ writeLeaves (now (trail .entry)) [] (trailLineAt (now (trail .entry))) (now (line .entry)) ⌝ }
+{
+    let mut t = [0u32; 1684];
+    let refused = checked(trail, &mut t);
+    if refused != 0 {
+        return refused;
+    }
+    written(report::trail::trail_line(trail, &t, line))
+}
+
+// The line of a place: 51, 61, or the line.
+#[no_mangle]
+pub extern "C" fn conform_place_line(trail: &[u8], place: u32, line: &mut [u8]) -> u64
+    ensures { λ r. ⌜ r ≡ writeAnswer (now (trail .entry)) (placeTests (now (trail .entry)) place) (placeLineAt (now (trail .entry)) place) (now (line .entry)) ⌝ }
+    ensures { λ _. ⌜ now (line .exit) ≡ writeLeaves (now (trail .entry)) (placeTests (now (trail .entry)) place) (placeLineAt (now (trail .entry)) place) (now (line .entry)) ⌝ }
+{
+    let mut t = [0u32; 1684];
+    let refused = checked(trail, &mut t);
+    if refused != 0 {
+        return refused;
+    }
+    written(report::trail::place_line(trail, &t, place, line))
+}
+
+// The line of an activity: 52, 61, or the line.
+#[no_mangle]
+pub extern "C" fn conform_act_line(trail: &[u8], activity: u32, line: &mut [u8]) -> u64
+    ensures { λ r. ⌜ r ≡ writeAnswer (now (trail .entry)) (actTests (now (trail .entry)) activity) (actLineAt (now (trail .entry)) activity) (now (line .entry)) ⌝ }
+    ensures { λ _. ⌜ now (line .exit) ≡ writeLeaves (now (trail .entry)) (actTests (now (trail .entry)) activity) (actLineAt (now (trail .entry)) activity) (now (line .entry)) ⌝ }
+{
+    let mut t = [0u32; 1684];
+    let refused = checked(trail, &mut t);
+    if refused != 0 {
+        return refused;
+    }
+    written(report::trail::act_line(trail, &t, activity, line))
+}
+
+// The line of the jumps from one place to another: 51, 61, or the line, which is nothing where there are none.
+#[no_mangle]
+pub extern "C" fn conform_jump_line(trail: &[u8], from: u32, to: u32, line: &mut [u8]) -> u64
+    ensures { λ r. ⌜ r ≡ writeAnswer (now (trail .entry)) (pairTests (now (trail .entry)) from to) (jumpLineAt (now (trail .entry)) from to) (now (line .entry)) ⌝ }
+    ensures { λ _. ⌜ now (line .exit) ≡ writeLeaves (now (trail .entry)) (pairTests (now (trail .entry)) from to) (jumpLineAt (now (trail .entry)) from to) (now (line .entry)) ⌝ }
+{
+    let mut t = [0u32; 1684];
+    let refused = checked(trail, &mut t);
+    if refused != 0 {
+        return refused;
+    }
+    written(report::trail::jump_line(trail, &t, from, to, line))
+}
+
+// The numbers of the trail's line: objects, events, jumps, transfers.
+#[no_mangle]
+pub extern "C" fn conform_trail_counts(trail: &[u8], counts: &mut [u8]) -> u64
+    ensures { λ r. ⌜ r ≡ writeAnswer (now (trail .entry)) [] (trailNumbers (now (trail .entry))) (now (counts .entry)) ⌝ }
+    ensures { λ _. ⌜ now (counts .exit) ≡ writeLeaves (now (trail .entry)) [] (trailNumbers (now (trail .entry))) (now (counts .entry)) ⌝ }
+{
+    let mut t = [0u32; 1684];
+    let refused = checked(trail, &mut t);
+    if refused != 0 {
+        return refused;
+    }
+    written(trail_numbers(trail, &t, counts))
+}
+
+// The numbers of a place's line: its number, TAKEN, IN, OUT.
+#[no_mangle]
+pub extern "C" fn conform_place_counts(trail: &[u8], place: u32, counts: &mut [u8]) -> u64
+    ensures { λ r. ⌜ r ≡ writeAnswer (now (trail .entry)) (placeTests (now (trail .entry)) place) (placeNumbers (now (trail .entry)) place) (now (counts .entry)) ⌝ }
+    ensures { λ _. ⌜ now (counts .exit) ≡ writeLeaves (now (trail .entry)) (placeTests (now (trail .entry)) place) (placeNumbers (now (trail .entry)) place) (now (counts .entry)) ⌝ }
+{
+    let mut t = [0u32; 1684];
+    let refused = checked(trail, &mut t);
+    if refused != 0 {
+        return refused;
+    }
+    written(place_numbers(trail, &t, place, counts))
+}
+
+// The numbers of an activity's line: its number, FIRED, MOVED, JUMPS.
+#[no_mangle]
+pub extern "C" fn conform_act_counts(trail: &[u8], activity: u32, counts: &mut [u8]) -> u64
+    ensures { λ r. ⌜ r ≡ writeAnswer (now (trail .entry)) (actTests (now (trail .entry)) activity) (actNumbers (now (trail .entry)) activity) (now (counts .entry)) ⌝ }
+    ensures { λ _. ⌜ now (counts .exit) ≡ writeLeaves (now (trail .entry)) (actTests (now (trail .entry)) activity) (actNumbers (now (trail .entry)) activity) (now (counts .entry)) ⌝ }
+{
+    let mut t = [0u32; 1684];
+    let refused = checked(trail, &mut t);
+    if refused != 0 {
+        return refused;
+    }
+    written(act_numbers(trail, &t, activity, counts))
+}
+
+// The numbers of a pair's line: the two places and the jump count, also where that is 0.
+#[no_mangle]
+pub extern "C" fn conform_jump_count(trail: &[u8], from: u32, to: u32, counts: &mut [u8]) -> u64
+    ensures { λ r. ⌜ r ≡ writeAnswer (now (trail .entry)) (pairTests (now (trail .entry)) from to) (pairNumbers (now (trail .entry)) from to) (now (counts .entry)) ⌝ }
+    ensures { λ _. ⌜ now (counts .exit) ≡ writeLeaves (now (trail .entry)) (pairTests (now (trail .entry)) from to) (pairNumbers (now (trail .entry)) from to) (now (counts .entry)) ⌝ }
+{
+    let mut t = [0u32; 1684];
+    let refused = checked(trail, &mut t);
+    if refused != 0 {
+        return refused;
+    }
+    written(pair_numbers(trail, &t, from, to, counts))
+}
