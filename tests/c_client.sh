@@ -1,0 +1,20 @@
+#!/usr/bin/env bash
+# The example of a client in C: built against libclient.a and include/conform.h, it prints T4's sheet.
+set -eu
+cd "$(dirname "$0")/.."
+if ! command -v gcc >/dev/null; then
+    echo "no gcc: nothing was tested"
+    exit 0
+fi
+work=$(mktemp -d)
+trap 'rm -rf "$work"' EXIT
+# the gate begins with no archive; after an edit, build it anew with `rt staticlib client`
+[ -f target/staticlib/libclient.a ] || rt staticlib client
+gcc -std=c11 -O2 -Wall -Wextra -Werror -Iinclude examples/client.c -Ltarget/staticlib -lclient -o "$work/client"
+"$work/client" >"$work/sheet"
+diff "$work/sheet" examples/T4/sheet
+if command -v valgrind >/dev/null; then
+    valgrind --error-exitcode=1 -q "$work/client" >"$work/sheet"
+    diff "$work/sheet" examples/T4/sheet
+fi
+echo "the sheet of T4"
