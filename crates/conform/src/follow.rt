@@ -1,8 +1,8 @@
-// The events of a trail from standard input, read through a window and carried out one by one; then the close and the sheet.
+// The events of a trail from standard input, read through a window and carried out one by one; then the close and the report.
 
 use crate::input::refill;
-use crate::sheet::print;
-use crate::sheet::refuse;
+use crate::output::print;
+use crate::output::refuse;
 use tracefile::Cursor;
 use tracefile::Found;
 use words::wide;
@@ -158,7 +158,7 @@ fn all_events(rec: &mut [u8], t: &[u32; 1684], register: &[u8], body: usize) -> 
     stopped(spot, 0)
 }
 
-// Follows a trail that is started to its end: the sheet, or the first refusal.
+// Follows a trail that is started to its end: the report, or the first refusal.
 pub fn follow(rec: &mut [u8], t: &[u32; 1684], register: &[u8], body: usize)
     requires { ⌜ Follows (now t) (now rec) (now register) 0 ⌝ }
 {

@@ -1,15 +1,15 @@
-// The program: it reads the route table `route.tab` and a trail from standard input, and writes the sheet, or the first
+// The program: it reads the route table `route.tab` and a trail from standard input, and writes the report (the sheet), or the first
 // refusal, to standard output. What it reads and writes is tested; proved is that it is safe and ends on every input.
 
 mod follow;
 mod input;
-mod sheet;
+mod output;
 
 use crate::follow::follow;
 use crate::input::read_file;
 use crate::input::read_some;
 use crate::input::skip;
-use crate::sheet::refuse;
+use crate::output::refuse;
 use net::LoadAnswer;
 use starting::StartAnswer;
 use tracefile::Contents;

@@ -4,5 +4,5 @@ mod FitnessLaws
 pub mod LineLaws
 pub mod TrailLaws
 mod NextLaws
-pub mod SheetLaws
+pub mod ReportLaws
 pub mod RowsHold

@@ -1,20 +1,20 @@
--- T4's sheet, line by line and whole, and T13's figures, computed from the definitions, are the paper's text. Assumes nothing.
+-- T4's report, line by line and whole, and T13's figures, computed from the definitions, are the paper's text. Assumes nothing.
 use mathlib.Core.Path.{refl}
 use Rattle.replay.specs.Rows.{M}
-use Rattle.report.specs.Sheet.{sheetOf}
+use Rattle.report.specs.Report.{reportOf}
 use Rattle.report.specs.Decimal.{decimal}
 use Rattle.report.specs.Fitness.{thousandths, fitness}
 use Rattle.report.specs.Lines.{lineOf}
-use Rattle.report.specs.Rows.{sheet, rounding, whole, RowsHold}
+use Rattle.report.specs.Rows.{lines, rounding, whole, RowsHold}
 
-pub sheet-holds : RowsHold sheet
-unfolding sheet lineOf decimal fitness thousandths
-sheet-holds = (refl, (refl, (refl, (refl, (refl, (refl, (refl, (refl, (refl, (refl, (refl, (refl, (refl, tt)))))))))))))
+pub lines-hold : RowsHold lines
+unfolding lines lineOf decimal fitness thousandths
+lines-hold = (refl, (refl, (refl, (refl, (refl, (refl, (refl, (refl, (refl, (refl, (refl, (refl, (refl, tt)))))))))))))
 
 pub rounding-holds : RowsHold rounding
 unfolding rounding fitness thousandths
 rounding-holds = (refl, (refl, (refl, (refl, tt))))
 
 pub whole-holds : RowsHold whole
-unfolding whole M sheetOf lineOf decimal fitness thousandths
+unfolding whole M reportOf lineOf decimal fitness thousandths
 whole-holds = (refl, tt)

@@ -4,5 +4,5 @@ pub mod Fitness
 pub mod Lines
 pub mod Answer
 pub mod TrailLines
-pub mod Sheet
+pub mod Report
 pub mod Rows

@@ -1,4 +1,4 @@
--- Document 01's sheet for T4, and T13, as rows: what a definition gives, and the text that it is to be.
+-- Document 01's report (sheet) for T4, and T13, as rows: what a definition gives, and the text that it is to be.
 use Prim.Native.Nat.{ℕ}
 use Prim.Native.String.{String}
 use mathlib.Core.Path.{_≡_}
@@ -9,15 +9,15 @@ use Rattle.replay.specs.Rows.{M, ev, three}
 use Rattle.report.specs.Text.{ascii}
 use Rattle.report.specs.Fitness.{fitness, fitnessText}
 use Rattle.report.specs.Lines.{trailLine, placeLine, actLine, jumpLine}
-use Rattle.report.specs.Sheet.{sheetOf}
+use Rattle.report.specs.Report.{reportOf}
 
 pub record Row : Type 0 where
   pub gives : List ℕ
   pub text : String
 
--- the sheet for T4, with a pair of places that has no jumps, whose line is nothing
-unfoldable pub sheet : List Row
-sheet =
+-- the report for T4, with a pair of places that has no jumps, whose line is nothing
+unfoldable pub lines : List Row
+lines =
     record { gives = trailLine 3 5 1 10; text = "trail 3 5 1 10 0.900\n" }
     ∷ record { gives = placeLine 0 1 0 0; text = "place 0 1 0 0 1.000\n" }
     ∷ record { gives = placeLine 1 3 0 0; text = "place 1 3 0 0 1.000\n" }
@@ -42,11 +42,11 @@ rounding =
     ∷ record { gives = fitnessText (fitness 0 0); text = "-" }
     ∷ []
 
--- the whole sheet of T4, from its events and its close on table M
+-- the whole report of T4, from its events and its close on table M
 unfoldable pub whole : List Row
 whole =
     record {
-      gives = sheetOf M (run M (start three) (ev 0 (0 ∷ []) ∷ ev 1 (1 ∷ []) ∷ ev 2 (0 ∷ 1 ∷ []) ∷ ev 2 (0 ∷ 2 ∷ []) ∷ ev 3 (0 ∷ []) ∷ close ∷ []));
+      gives = reportOf M (run M (start three) (ev 0 (0 ∷ []) ∷ ev 1 (1 ∷ []) ∷ ev 2 (0 ∷ 1 ∷ []) ∷ ev 2 (0 ∷ 2 ∷ []) ∷ ev 3 (0 ∷ []) ∷ close ∷ []));
       text = "trail 3 5 1 10 0.900\nplace 0 1 0 0 1.000\nplace 1 3 0 0 1.000\nplace 2 1 0 0 1.000\nplace 3 1 0 1 1.000\nplace 4 2 1 0 0.500\nplace 5 2 0 0 1.000\nact 0 1 1 0 1.000\nact 1 1 1 0 1.000\nact 2 2 4 1 0.750\nact 3 1 1 0 1.000\njump 3 4 1\n";
     }
     ∷ []

@@ -1,4 +1,4 @@
--- The sheet of a trail's bytes is that of the plain run with which they agree, and asking for the next pair with jumps again and
+-- The report of a trail's bytes is that of the plain run with which they agree, and asking for the next pair with jumps again and
 -- again gives each of them once.
 -- Assumes nothing.
 use Prim.Native.Nat.{ℕ, zero, suc, _+_, _*_, _/_, _%_, _<_, _≤_}
@@ -18,7 +18,7 @@ use Rattle.replay.specs.Claims.{Agrees}
 use Rattle.replay.specs.Calls.{netAt, stateAt}
 use Rattle.replay.specs.Rows.{pairsBelow}
 use Rattle.report.specs.TrailLines.{trailLineAt, placeLineAt, actLineAt, jumpLineAt, nextJump}
-use Rattle.report.specs.Sheet.{textOf, trailLineOf, placeLineOf, actLineOf, jumpLineOf, sheetOf, pairLineAt, sheetAt, jumpPairs, follow, visits}
+use Rattle.report.specs.Report.{textOf, trailLineOf, placeLineOf, actLineOf, jumpLineOf, reportOf, pairLineAt, reportAt, jumpPairs, follow, visits}
 use Rattle.report.proofs.NextLaws.{row-lt, column-lt, row-column, next-end, next-here, next-skip}
 
 text-same : {A : Type 0} (f g : A → List ℕ) (xs : List A) → All (λ (x : A). f x ≡ g x) xs → textOf f xs ≡ textOf g xs
@@ -53,9 +53,9 @@ module _ (b : List ℕ) (p : Plain) (A : Agrees (netAt b) (stateAt b) p) where
   unfolding jumpLineAt
   jump-agrees x y h k = rw (A .pair-jumps-are x y h k)
 
-  pub sheet-agrees : sheetAt b ≡ sheetOf (netAt b) p
-  unfolding sheetAt sheetOf
-  sheet-agrees =
+  pub report-agrees : reportAt b ≡ reportOf (netAt b) p
+  unfolding reportAt reportOf
+  report-agrees =
       ap₂ (λ (u v : List ℕ). u ++ v) trail-agrees
       (ap₂ (λ (u v : List ℕ). u ++ v) (below (placeLineAt b) (placeLineOf (netAt b) p) (netAt b .places) place-agrees)
       (ap₂ (λ (u v : List ℕ). u ++ v) (below (actLineAt b) (actLineOf (netAt b) p) (netAt b .acts) act-agrees)

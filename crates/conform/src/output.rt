@@ -1,4 +1,4 @@
-// The sheet, and the line of a refusal, on standard output.
+// The report (the sheet), and the line of a refusal, on standard output.
 
 use report::LineAnswer;
 use report::trail::NextJump;
@@ -122,7 +122,7 @@ fn put_jumps(rec: &[u8], t: &[u32; 1684], out: &mut [u8], start: usize) -> usize
     at
 }
 
-// The whole sheet.
+// The whole report.
 pub fn print(rec: &[u8], t: &[u32; 1684])
     requires { ⌜ Ready (now t) (now rec) ⌝ }
 {

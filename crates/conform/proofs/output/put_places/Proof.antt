@@ -4,8 +4,8 @@ use mathlib.Core.Path.{_≡_}
 use native.Mathlib.Omega.{arith}
 use lib.ListN.{length}
 use Rattle.replay.proofs.RecordLaws.{ready-loaded}
-use Rattle.conform.proofs.sheet.put_places.Statement.{statement}
-use Rattle.conform.proofs.sheet.put_places.Tie as tie
+use Rattle.conform.proofs.output.put_places.Statement.{statement}
+use Rattle.conform.proofs.output.put_places.Tie as tie
 
 abbrev Inv-loop : tie.InvT-loop
 Inv-loop rec t out₀ start n at₀ q₀ out at q = (n ≤ 64) × (length out ≡ length out₀) × (at ≤ length out₀)

@@ -36,8 +36,8 @@ module _ (N : Net) (p : Plain) where
   abbrev pub jumpLineOf : ℕ × ℕ → List ℕ
   jumpLineOf x = jumpLine (x .0) (x .1) (pairJumps N p (x .0) (x .1))
 
-  unfoldable pub sheetOf : List ℕ
-  sheetOf =
+  unfoldable pub reportOf : List ℕ
+  reportOf =
       trailLineOf
       ++ (textOf placeLineOf (upto (N .places) 0) ++ (textOf actLineOf (upto (N .acts) 0) ++ textOf jumpLineOf (pairsBelow (N .places))))
 
@@ -45,8 +45,8 @@ module _ (N : Net) (p : Plain) where
 abbrev pub pairLineAt : List ℕ → ℕ × ℕ → List ℕ
 pairLineAt b x = jumpLineAt b (x .0) (x .1)
 
-unfoldable pub sheetAt : List ℕ → List ℕ
-sheetAt b =
+unfoldable pub reportAt : List ℕ → List ℕ
+reportAt b =
     trailLineAt b
     ++ (textOf (placeLineAt b) (upto (netAt b .places) 0)
     ++ (textOf (actLineAt b) (upto (netAt b .acts) 0) ++ textOf (pairLineAt b) (pairsBelow (netAt b .places))))

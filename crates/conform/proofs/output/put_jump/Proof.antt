@@ -4,8 +4,8 @@ use native.Mathlib.Omega.{arith}
 use lib.ListN.{length, drop, length-take, length-drop}
 use Rattle.conform.proofs.Written.{line-fits}
 use borrow.Author.Needs.{needs}
-use Rattle.conform.proofs.sheet.put_jump.Statement.{statement}
-use Rattle.conform.proofs.sheet.put_jump.Tie as tie
+use Rattle.conform.proofs.output.put_jump.Statement.{statement}
+use Rattle.conform.proofs.output.put_jump.Tie as tie
 
 -- how long the line is
 fits : (c : tie.After-size) → c .before .before .before .before .before .room .result + c .size .result ≤ length (c .before .before .before .before .before .before .before .before .before .args .out .now)

@@ -2,8 +2,8 @@
 use native.Mathlib.Omega.{arith}
 use lib.ListN.{length-take}
 use borrow.Author.Needs.{needs}
-use Rattle.conform.proofs.sheet.room.Statement.{statement}
-use Rattle.conform.proofs.sheet.room.Tie as tie
+use Rattle.conform.proofs.output.room.Statement.{statement}
+use Rattle.conform.proofs.output.room.Tie as tie
 
 sub-if1 : tie.Need-sub-if1
 sub-if1 c = search needs

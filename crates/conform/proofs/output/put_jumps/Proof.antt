@@ -4,8 +4,8 @@ use mathlib.Core.Path.{_≡_}
 use native.Mathlib.Omega.{arith}
 use lib.ListN.{length}
 use borrow.Author.Needs.{needs}
-use Rattle.conform.proofs.sheet.put_jumps.Statement.{statement}
-use Rattle.conform.proofs.sheet.put_jumps.Tie as tie
+use Rattle.conform.proofs.output.put_jumps.Statement.{statement}
+use Rattle.conform.proofs.output.put_jumps.Tie as tie
 
 abbrev Inv-loop : tie.InvT-loop
 Inv-loop rec t out₀ start at₀ i₀ pairs₀ out at i pairs = (length out ≡ length out₀) × (at ≤ length out₀)

@@ -3,8 +3,8 @@ use native.Mathlib.Omega.{arith}
 use lib.ListN.{length-take}
 use Rattle.conform.proofs.Written.{line-fits}
 use borrow.Author.Needs.{needs}
-use Rattle.conform.proofs.sheet.print.Statement.{statement}
-use Rattle.conform.proofs.sheet.print.Tie as tie
+use Rattle.conform.proofs.output.print.Statement.{statement}
+use Rattle.conform.proofs.output.print.Tie as tie
 
 buffer-requires : tie.Need-buffer-requires
 buffer-requires c κs = search needs

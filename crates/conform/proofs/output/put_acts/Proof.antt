@@ -4,8 +4,8 @@ use mathlib.Core.Path.{_≡_}
 use native.Mathlib.Omega.{arith}
 use lib.ListN.{length}
 use Rattle.replay.proofs.RecordLaws.{ready-loaded}
-use Rattle.conform.proofs.sheet.put_acts.Statement.{statement}
-use Rattle.conform.proofs.sheet.put_acts.Tie as tie
+use Rattle.conform.proofs.output.put_acts.Statement.{statement}
+use Rattle.conform.proofs.output.put_acts.Tie as tie
 
 abbrev Inv-loop : tie.InvT-loop
 Inv-loop rec t out₀ start n at₀ a₀ out at a = (n ≤ 64) × (length out ≡ length out₀) × (at ≤ length out₀)

@@ -4,8 +4,8 @@ use native.Mathlib.Omega.{arith}
 use lib.ListN.{length-take}
 use Rattle.conform.proofs.Written.{line-fits}
 use borrow.Author.Needs.{needs}
-use Rattle.conform.proofs.sheet.refuse.Statement.{statement}
-use Rattle.conform.proofs.sheet.refuse.Tie as tie
+use Rattle.conform.proofs.output.refuse.Statement.{statement}
+use Rattle.conform.proofs.output.refuse.Tie as tie
 
 fits : (c : tie.After-size) → c .size .result ≤ 64
 fits c = let k = line-fits _ _ _ _ _ (c .before .before .refused-line .ensures) (omega arith) in omega (arith, k, c .size .ensures)
