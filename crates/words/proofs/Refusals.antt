@@ -47,3 +47,11 @@ first-le m (t ∷ ts) a = go (t .0) (a .0) (first-le m ts (a .1))
     go : (b : Bool) → t .1 ≤ m → first ts ≤ m → pick b (t .1) (first ts) ≤ m
     go true h r = h
     go false h r = r
+
+-- the first test holds, and its number is given
+pub refused : (b : Bool) (n r : ℕ) → b ≡ true → n ≡ pick b n r
+refused b n r e = rw e
+
+-- the first test does not hold, and the others decide
+pub passed : (b : Bool) (n r x : ℕ) → b ≡ false → x ≡ r → x ≡ pick b n r
+passed b n r x e h = rw e h

@@ -1,3 +1,4 @@
+use mathlib.Core.Path.{refl}
 use borrow.Author.Needs.{needs}
 use Rattle.words.proofs.laid_out.Statement.{statement}
 use Rattle.words.proofs.laid_out.Tie as tie
@@ -19,11 +20,11 @@ enum-known-e c = search needs
 
 -- src/lib.rt:71:1
 returns : tie.Need-returns
-returns c = rw (← c .before .before .read-bodies .ensures, c .enum-told .given .1)
+returns c = rw (← c .before .before .read-bodies .ensures, c .enum-told .given .1) refl
 
 -- src/lib.rt:71:1
 returns-2 : tie.Need-returns-2
-returns-2 c = rw (← c .before .before .before .read-bodies .ensures, c .before .e .given .1)
+returns-2 c = rw (← c .before .before .before .read-bodies .ensures, c .before .e .given .1) refl
 
 pub laid-out-spec : {M : Type 1} → statement M
 laid-out-spec = tie.close (tie.spec read-bodies-requires enum-told enum-known-e returns returns-2)

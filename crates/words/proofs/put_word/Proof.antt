@@ -1,3 +1,4 @@
+use mathlib.Core.Path.{refl}
 use native.Mathlib.Omega.{arith}
 use native.Mathlib.Numerals.{towards-suc}
 use lib.ListN.{length-set}
@@ -64,7 +65,7 @@ same-length c = search needs
 -- src/lib.rt:41:1
 returns : tie.Need-returns
 unfolding bytesOf
-returns c = record { bytes = simp towards-suc; words = simp towards-suc (words-put _ _ _ (omega arith) (c .pre)) }
+returns c = record { bytes = simp towards-suc refl; words = simp towards-suc (words-put _ _ _ (omega arith) (c .pre)) }
 
 pub put-word-spec : {M : Type 1} → statement M
 put-word-spec =

@@ -1,5 +1,5 @@
 use Prim.Native.Nat.{_-_, _*_, _≤_}
-use mathlib.Core.Path.{_≡_, sym, _∙_}
+use mathlib.Core.Path.{_≡_, refl, sym, _∙_}
 use native.Mathlib.Nat.{sub-zero}
 use native.Mathlib.Omega.{arith}
 use borrow.Author.Needs.{needs}
@@ -24,7 +24,7 @@ mul-end c = search needs
 -- src/lib.rt:59:5
 loop-holds : tie.Need-loop-holds Inv-loop μ-loop
 unfolding bodiesOf
-loop-holds c = (omega arith, rw sub-zero)
+loop-holds c = (omega arith, rw sub-zero refl)
 
 -- src/lib.rt:60:18
 mul-at : tie.Need-mul-at Inv-loop μ-loop

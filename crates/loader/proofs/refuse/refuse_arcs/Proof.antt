@@ -1,5 +1,6 @@
 -- Each return by the tests passed on the way. Assumes nothing.
-use mathlib.Core.Path.{sym, _∙_}
+use mathlib.Core.Path.{refl, sym, _∙_}
+use Rattle.words.proofs.Refusals.{refused, passed}
 use Rattle.net.specs.Held.{netIn}
 use Rattle.loader.proofs.LoadLaws.{ruled-by}
 use Rattle.loader.proofs.refuse.refuse_arcs.Statement.{statement}
@@ -10,25 +11,25 @@ bad-arcs-requires c κs = (c .pre .sized, c .pre .arcs-few)
 
 returns : tie.Need-returns
 unfolding netIn
-returns c = rw (← c .before .bad-arcs .ensures, c .if1 .taken)
+returns c = refused _ _ _ (sym (c .before .bad-arcs .ensures) ∙ c .if1 .taken)
 
 two-of-kind-requires : tie.Need-two-of-kind-requires
 two-of-kind-requires c κs = ruled-by _ (c .before .before .pre) (sym (c .before .bad-arcs .ensures) ∙ c .if1 .left)
 
 returns-2 : tie.Need-returns-2
 unfolding netIn
-returns-2 c = rw (← c .before .before .before .bad-arcs .ensures, c .before .before .if1 .left, ← c .before .two-of-kind .ensures, c .if2 .taken)
+returns-2 c = passed _ _ _ _ (sym (c .before .before .before .bad-arcs .ensures) ∙ c .before .before .if1 .left) (refused _ _ _ (sym (c .before .two-of-kind .ensures) ∙ c .if2 .taken))
 
 unreached-requires : tie.Need-unreached-requires
 unreached-requires c κs = ruled-by _ (c .before .before .before .before .pre) (sym (c .before .before .before .bad-arcs .ensures) ∙ c .before .before .if1 .left)
 
 returns-3 : tie.Need-returns-3
 unfolding netIn
-returns-3 c = rw (← c .before .before .before .before .before .bad-arcs .ensures, c .before .before .before .before .if1 .left, ← c .before .before .before .two-of-kind .ensures, c .before .before .if2 .left, ← c .before .unreached .ensures, c .if3 .taken)
+returns-3 c = passed _ _ _ _ (sym (c .before .before .before .before .before .bad-arcs .ensures) ∙ c .before .before .before .before .if1 .left) (passed _ _ _ _ (sym (c .before .before .before .two-of-kind .ensures) ∙ c .before .before .if2 .left) (refused _ _ _ (sym (c .before .unreached .ensures) ∙ c .if3 .taken)))
 
 returns-4 : tie.Need-returns-4
 unfolding netIn
-returns-4 c = rw (← c .before .before .before .before .before .bad-arcs .ensures, c .before .before .before .before .if1 .left, ← c .before .before .before .two-of-kind .ensures, c .before .before .if2 .left, ← c .before .unreached .ensures, c .if3 .left)
+returns-4 c = passed _ _ _ _ (sym (c .before .before .before .before .before .bad-arcs .ensures) ∙ c .before .before .before .before .if1 .left) (passed _ _ _ _ (sym (c .before .before .before .two-of-kind .ensures) ∙ c .before .before .if2 .left) (passed _ _ _ _ (sym (c .before .unreached .ensures) ∙ c .if3 .left) (refl)))
 
 pub refuse-arcs-spec : {M : Type 1} → statement M
 refuse-arcs-spec =

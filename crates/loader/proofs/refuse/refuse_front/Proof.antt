@@ -1,6 +1,7 @@
 -- Each return by the tests passed on the way. Assumes nothing.
 use Prim.Native.Nat.{ℕ, _≤_}
 use mathlib.Core.Path.{sym, _∙_}
+use Rattle.words.proofs.Refusals.{refused, passed}
 use borrow.Author.Tests.{eq-eqb, ne-eqb}
 use Rattle.words.proofs.Lists.{All-at}
 use Rattle.net.specs.Held.{countsIn}
@@ -13,19 +14,19 @@ bad-place-requires : tie.Need-bad-place-requires
 bad-place-requires c κs = search needs
 
 returns : tie.Need-returns
-returns c = rw (← c .before .bad-place .ensures, c .if1 .taken)
+returns c = refused _ _ _ (sym (c .before .bad-place .ensures) ∙ c .if1 .taken)
 
 bad-ends-requires : tie.Need-bad-ends-requires
 bad-ends-requires c κs = search needs
 
 returns-2 : tie.Need-returns-2
-returns-2 c = rw (← c .before .before .before .bad-place .ensures, c .before .before .if1 .left, ← c .before .bad-ends .ensures, c .if2 .taken)
+returns-2 c = passed _ _ _ _ (sym (c .before .before .before .bad-place .ensures) ∙ c .before .before .if1 .left) (refused _ _ _ (sym (c .before .bad-ends .ensures) ∙ c .if2 .taken))
 
 bad-counts-requires : tie.Need-bad-counts-requires
 bad-counts-requires c κs = search needs
 
 returns-3 : tie.Need-returns-3
-returns-3 c = rw (← c .before .before .before .before .before .bad-place .ensures, c .before .before .before .before .if1 .left, ← c .before .before .before .bad-ends .ensures, c .before .before .if2 .left, ← c .before .bad-counts .ensures, c .if3 .taken)
+returns-3 c = passed _ _ _ _ (sym (c .before .before .before .before .before .bad-place .ensures) ∙ c .before .before .before .before .if1 .left) (passed _ _ _ _ (sym (c .before .before .before .bad-ends .ensures) ∙ c .before .before .if2 .left) (refused _ _ _ (sym (c .before .bad-counts .ensures) ∙ c .if3 .taken)))
 
 sum-counts-requires : tie.Need-sum-counts-requires
 sum-counts-requires c κs =
@@ -38,10 +39,10 @@ wide-requires : tie.Need-wide-requires
 wide-requires c κs = search needs
 
 returns-4 : tie.Need-returns-4
-returns-4 c = rw (← c .before .before .before .before .before .before .before .before .before .bad-place .ensures, c .before .before .before .before .before .before .before .before .if1 .left, ← c .before .before .before .before .before .before .before .bad-ends .ensures, c .before .before .before .before .before .before .if2 .left, ← c .before .before .before .before .before .bad-counts .ensures, c .before .before .before .before .if3 .left, ← c .before .before .before .sum-counts .ensures, ← c .before .wide .ensures, ne-eqb _ _ (c .if4 .taken))
+returns-4 c = passed _ _ _ _ (sym (c .before .before .before .before .before .before .before .before .before .bad-place .ensures) ∙ c .before .before .before .before .before .before .before .before .if1 .left) (passed _ _ _ _ (sym (c .before .before .before .before .before .before .before .bad-ends .ensures) ∙ c .before .before .before .before .before .before .if2 .left) (passed _ _ _ _ (sym (c .before .before .before .before .before .bad-counts .ensures) ∙ c .before .before .before .before .if3 .left) (rw (← c .before .before .before .sum-counts .ensures, ← c .before .wide .ensures, ne-eqb _ _ (c .if4 .taken)))))
 
 returns-5 : tie.Need-returns-5
-returns-5 c = rw (← c .before .before .before .before .before .before .before .before .before .bad-place .ensures, c .before .before .before .before .before .before .before .before .if1 .left, ← c .before .before .before .before .before .before .before .bad-ends .ensures, c .before .before .before .before .before .before .if2 .left, ← c .before .before .before .before .before .bad-counts .ensures, c .before .before .before .before .if3 .left, ← c .before .before .before .sum-counts .ensures, ← c .before .wide .ensures, eq-eqb _ _ (c .if4 .left))
+returns-5 c = passed _ _ _ _ (sym (c .before .before .before .before .before .before .before .before .before .bad-place .ensures) ∙ c .before .before .before .before .before .before .before .before .if1 .left) (passed _ _ _ _ (sym (c .before .before .before .before .before .before .before .bad-ends .ensures) ∙ c .before .before .before .before .before .before .if2 .left) (passed _ _ _ _ (sym (c .before .before .before .before .before .bad-counts .ensures) ∙ c .before .before .before .before .if3 .left) (rw (← c .before .before .before .sum-counts .ensures, ← c .before .wide .ensures, eq-eqb _ _ (c .if4 .left)))))
 
 pub refuse-front-spec : {M : Type 1} → statement M
 refuse-front-spec =
