@@ -2,9 +2,9 @@
 use mathlib.Core.Path.{refl}
 use Rattle.replay.specs.Rows.{M}
 use Rattle.report.specs.Report.{reportOf}
-use Rattle.report.specs.Decimal.{decimal}
-use Rattle.report.specs.Fitness.{thousandths, fitness}
-use Rattle.report.specs.Lines.{lineOf}
+use Rattle.lines.specs.Decimal.{decimal}
+use Rattle.lines.specs.Fitness.{thousandths, fitness}
+use Rattle.lines.specs.Lines.{lineOf}
 use Rattle.report.specs.Rows.{lines, rounding, whole, RowsHold}
 
 pub lines-hold : RowsHold lines

@@ -16,7 +16,7 @@ use Rattle.counts.specs.declared.ActCounts.{ActCounts}
 use Rattle.counts.specs.declared.ActRead.the-variants as act
 use Rattle.counts.specs.declared.PairRead.the-variants as pair
 use Rattle.counts.specs.declared.TrailCounts.{TrailCounts}
-use Rattle.report.specs.Lines.{trailLine, placeLine, actLine, jumpLine}
+use Rattle.lines.specs.Lines.{trailLine, placeLine, actLine, jumpLine}
 use Rattle.report.specs.TrailLines.{trailLineAt, placeLineAt, actLineAt, jumpLineAt}
 
 pub place-held : (u : Bool) (v k : PlaceCounts) → pick u place.Unknown (place.Counts v) ≡ place.Counts k → k ≡ v

@@ -12,7 +12,7 @@ use Rattle.replay.specs.Counts.{transfers, allJumps, consumed, jumpsIn, jumpsOu
 use Rattle.replay.specs.State.{storedPair}
 use Rattle.replay.specs.Calls.{netAt, stateAt}
 use Rattle.replay.specs.Rows.{pairsBelow}
-use Rattle.report.specs.Lines.{trailLine, placeLine, actLine, jumpLine}
+use Rattle.lines.specs.Lines.{trailLine, placeLine, actLine, jumpLine}
 use Rattle.report.specs.TrailLines.{trailLineAt, placeLineAt, actLineAt, jumpLineAt, nextJump}
 use Rattle.report.specs.declared.trail.NextJump.{NextJump}
 use Rattle.report.specs.declared.trail.NextJump.the-variants.{Done, Pair}

@@ -6,9 +6,9 @@ use mathlib.Core.List.{List, [], _∷_}
 use Rattle.words.specs.Lists.{All}
 use Rattle.replay.specs.Plain.{close, start, run}
 use Rattle.replay.specs.Rows.{M, ev, three}
-use Rattle.report.specs.Text.{ascii}
-use Rattle.report.specs.Fitness.{fitness, fitnessText}
-use Rattle.report.specs.Lines.{trailLine, placeLine, actLine, jumpLine}
+use Rattle.lines.specs.Text.{ascii}
+use Rattle.lines.specs.Fitness.{fitness, fitnessText}
+use Rattle.lines.specs.Lines.{trailLine, placeLine, actLine, jumpLine}
 use Rattle.report.specs.Report.{reportOf}
 
 pub record Row : Type 0 where

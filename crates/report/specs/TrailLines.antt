@@ -6,7 +6,7 @@ use lib.Dec.{eqb}
 use Rattle.words.specs.Lists.{pick}
 use Rattle.replay.specs.State.{storedConsumed, storedPair, storedJumpsIn, storedJumpsOut, storedMoved, storedJumps, storedTransfers}
 use Rattle.replay.specs.Calls.{netAt, stateAt}
-use Rattle.report.specs.Lines.{trailLine, placeLine, actLine, jumpLine}
+use Rattle.lines.specs.Lines.{trailLine, placeLine, actLine, jumpLine}
 use Rattle.report.specs.declared.trail.NextJump.{NextJump}
 use Rattle.report.specs.declared.trail.NextJump.the-variants.{Done, Pair}
 

@@ -1,19 +1,4 @@
-// The report (the sheet): its lines as text in lent bytes. Above `replay`, whose counts it writes, and `digits`.
+// The report (the sheet) of a trail in lent bytes: its lines, and the pairs of places with jumps one after the other.
+// Above `counts`, which reads the numbers, and `lines`, which writes them.
 
-pub mod decimal;
-pub mod field;
-pub mod fitness;
-pub mod lines;
 pub mod trail;
-
-// The answer to writing a line. `codeOf` gives document 01's number.
-pub enum LineAnswer {
-    // The line is in the lent part, and has this many bytes.
-    Written(usize),
-    // 51: unknown place.
-    UnknownPlace,
-    // 52: unknown activity.
-    UnknownActivity,
-    // 61: the lent part is shorter than the line.
-    NoRoom,
-}

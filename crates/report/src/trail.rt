@@ -1,7 +1,5 @@
 // The lines of a trail, from its bytes: an unknown place (51) or activity (52) is refused before the lent part is looked at.
 
-use crate::LineAnswer;
-use crate::lines;
 use counts::ActRead;
 use counts::PairRead;
 use counts::PlaceRead;
@@ -9,6 +7,7 @@ use counts::read_act;
 use counts::read_pair;
 use counts::read_place;
 use counts::read_trail;
+use lines::LineAnswer;
 ghost use mathlib.Core.Path.{_≡_};
 ghost use mathlib.Core.List.{[]};
 ghost use Prim.Native.Nat.{_*_, _<_};
@@ -17,7 +16,7 @@ ghost use Rattle.net.specs.Held.{netIn};
 ghost use Rattle.replay.specs.Calls.{stateAt};
 ghost use Rattle.replay.specs.Ready.{Ready};
 ghost use Rattle.counts.specs.Reads.{placeTests, actTests, pairTests};
-ghost use Rattle.report.specs.Answer.{Writes};
+ghost use Rattle.lines.specs.Answer.{Writes};
 ghost use Rattle.report.specs.TrailLines.{trailLineAt, placeLineAt, actLineAt, jumpLineAt, nextJump};
 
 // The next pair of places that has jumps.

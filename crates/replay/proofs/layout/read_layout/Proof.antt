@@ -1,4 +1,5 @@
 -- `read_layout` meets its contract: each number is the one that `layoutOf` takes from the contents. Assumes nothing.
+use mathlib.Core.Path.{refl}
 use borrow.Author.Needs.{needs}
 use Rattle.replay.specs.Offsets.{layoutOf}
 use Rattle.replay.proofs.layout.read_layout.Statement.{statement}
@@ -24,7 +25,7 @@ places-requires c κs = search needs
 
 returns : tie.Need-returns
 unfolding layoutOf
-returns c = cc
+returns c = rw (c .before .before .before .before .before .quarter .ensures, c .before .before .before .before .quarter2 .ensures, c .before .before .before .quarter3 .ensures, c .before .before .quarter4 .ensures, c .before .quarter5 .ensures, c .places .ensures) refl
 
 pub read-layout-spec : {M : Type 1} → statement M
 read-layout-spec =

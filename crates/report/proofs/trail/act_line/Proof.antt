@@ -4,8 +4,8 @@ use mathlib.Core.Path.{refl, ap, sym, _∙_}
 use native.Mathlib.Omega.{arith}
 use Rattle.counts.specs.Reads.{actTests, actCode, actReadCode}
 use Rattle.report.specs.TrailLines.{actLineAt}
-use Rattle.report.specs.declared.LineAnswer.the-variants.{UnknownActivity}
-use Rattle.report.proofs.LineLaws.{same-line, refused, passed}
+use Rattle.lines.specs.declared.LineAnswer.the-variants.{UnknownActivity}
+use Rattle.lines.proofs.LineLaws.{same-line, refused, passed}
 use Rattle.report.proofs.TrailLaws.{act-counts}
 use borrow.Author.Needs.{needs}
 use Rattle.report.proofs.trail.act_line.Statement.{statement}

@@ -4,8 +4,8 @@ use mathlib.Core.Path.{refl, ap, sym, _∙_}
 use native.Mathlib.Omega.{arith}
 use Rattle.counts.specs.Reads.{pairTests, pairCode, pairReadCode}
 use Rattle.report.specs.TrailLines.{jumpLineAt}
-use Rattle.report.specs.declared.LineAnswer.the-variants.{UnknownPlace}
-use Rattle.report.proofs.LineLaws.{same-line, refused, passed}
+use Rattle.lines.specs.declared.LineAnswer.the-variants.{UnknownPlace}
+use Rattle.lines.proofs.LineLaws.{same-line, refused, passed}
 use Rattle.report.proofs.TrailLaws.{pair-count}
 use borrow.Author.Needs.{needs}
 use Rattle.report.proofs.trail.jump_line.Statement.{statement}

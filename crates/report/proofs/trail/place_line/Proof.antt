@@ -4,8 +4,8 @@ use mathlib.Core.Path.{refl, ap, sym, _∙_}
 use native.Mathlib.Omega.{arith}
 use Rattle.counts.specs.Reads.{placeTests, placeCode, placeReadCode}
 use Rattle.report.specs.TrailLines.{placeLineAt}
-use Rattle.report.specs.declared.LineAnswer.the-variants.{UnknownPlace}
-use Rattle.report.proofs.LineLaws.{same-line, refused, passed}
+use Rattle.lines.specs.declared.LineAnswer.the-variants.{UnknownPlace}
+use Rattle.lines.proofs.LineLaws.{same-line, refused, passed}
 use Rattle.report.proofs.TrailLaws.{place-counts}
 use borrow.Author.Needs.{needs}
 use Rattle.report.proofs.trail.place_line.Statement.{statement}

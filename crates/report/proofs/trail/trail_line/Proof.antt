@@ -1,6 +1,6 @@
 -- The line of the counts that were read.
 -- Assumes nothing.
-use Rattle.report.proofs.LineLaws.{same-line}
+use Rattle.lines.proofs.LineLaws.{same-line}
 use Rattle.report.proofs.TrailLaws.{trail-counts}
 use borrow.Author.Needs.{needs}
 use Rattle.report.proofs.trail.trail_line.Statement.{statement}

@@ -1,0 +1,4 @@
+mod DecimalLaws
+mod OverLaws
+mod FitnessLaws
+pub mod LineLaws

@@ -1,0 +1,5 @@
+pub mod Text
+pub mod Decimal
+pub mod Fitness
+pub mod Lines
+pub mod Answer
