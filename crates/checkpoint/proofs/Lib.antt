@@ -4,13 +4,3 @@ pub mod Judged
 pub mod Restored
 pub mod Demands
 pub mod Copies
-pub mod Totals
-pub mod Placing
-pub mod Adding
-pub mod Taking
-pub mod Counting
-pub mod Jumping
-pub mod Verdicts
-pub mod Opening
-pub mod Lent
-pub mod Taken

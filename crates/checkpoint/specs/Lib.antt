@@ -4,4 +4,3 @@ pub mod Demand
 pub mod Rows
 pub mod Answers
 pub mod Take
-pub mod Judge

@@ -48,3 +48,21 @@ pub fn answer(n: u32) -> LoadAnswer
         _ => LoadAnswer::Unreached,
     }
 }
+
+// The number of an answer.
+pub fn number(r: LoadAnswer) -> u32
+    ensures { λ n. ⌜ n ≡ codeOf r ⌝ }
+{
+    match r {
+        LoadAnswer::Taken => 0,
+        LoadAnswer::Length => 1,
+        LoadAnswer::Layout => 2,
+        LoadAnswer::Size => 3,
+        LoadAnswer::PlaceKind => 4,
+        LoadAnswer::Ends => 5,
+        LoadAnswer::Arcs => 6,
+        LoadAnswer::ArcPlaces => 7,
+        LoadAnswer::TwoOfKind => 8,
+        LoadAnswer::Unreached => 9,
+    }
+}

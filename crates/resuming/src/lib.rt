@@ -1,0 +1,133 @@
+// Taking up a checkpoint, with the refusals 41 to 47, and putting one down, in lent bytes.
+// Above `judging`, which tests the bodies behind the table, and `loader`; `checkpoint` has the definitions.
+
+use checkpoint::RestoreAnswer;
+use checkpoint::Resumed;
+use checkpoint::Saved;
+use judging::judge;
+use words::wide;
+ghost use mathlib.Core.Path.{_≡_};
+ghost use Prim.Native.Nat.{_≤_};
+ghost use lib.ListN.{length};
+ghost use Rattle.net.specs.Held.{afterLoad};
+ghost use Rattle.replay.specs.Record.{tableIn};
+ghost use Rattle.replay.specs.Calls.{over};
+ghost use Rattle.checkpoint.specs.Restore.{restoreCode, restoreSecond};
+ghost use Rattle.checkpoint.specs.Calls.{saveCode, saveBytes};
+ghost use Rattle.checkpoint.specs.Answers.{restoreAnswerCode, restoreAnswerSecond, resumedCode, resumedSecond, savedCode};
+ghost use Rattle.checkpoint.specs.Take.{Framed, Opened, checkedWords, takeCode, takeBytes};
+
+fn words_of(t: [u32; 1684])
+    ensures { λ _. ⌜ length t ≡ 1684 ⌝ }
+{}
+
+// Lent words are as many as their type says: this does nothing, and is called for what it ensures.
+fn count_words(t: &[u32; 1684])
+    ensures { λ _. ⌜ length (now (t .entry)) ≡ 1684 ⌝ }
+{
+    words_of(*t);
+}
+
+// 44 to 47, of a record whose table is loaded.
+fn check_bodies(rec: &[u8], t: &[u32; 1684]) -> RestoreAnswer
+    requires { ⌜ Opened (now rec) (now t) ⌝ }
+    ensures { λ r. ⌜ restoreAnswerCode r ≡ restoreCode (now (rec .entry)) ⌝ }
+    ensures { λ r. ⌜ restoreAnswerSecond r ≡ restoreSecond (now (rec .entry)) ⌝ }
+{
+    let k = wide(words::word_at(rec, 8));
+    let p = wide(words::word_at(rec, 16));
+    let c = wide(words::word_at(rec, 24));
+    let j = wide(words::word_at(rec, 32));
+    judge(&rec[k..p], &rec[p..c], &rec[c..j], &rec[j..], t)
+}
+
+// 43 to 47, of a record whose contents are laid out.
+fn check_table(rec: &[u8], t: &mut [u32; 1684]) -> RestoreAnswer
+    requires { ⌜ Framed (now rec) ⌝ }
+    ensures { λ r. ⌜ restoreAnswerCode r ≡ restoreCode (now (rec .entry)) ⌝ }
+    ensures { λ r. ⌜ restoreAnswerSecond r ≡ restoreSecond (now (rec .entry)) ⌝ }
+    ensures { λ _. ⌜ now (t .exit) ≡ afterLoad (tableIn (now (rec .entry))) (now (t .entry)) ⌝ }
+{
+    count_words(t);
+    let end = 40 + wide(words::word_at(rec, 4));
+    let n = net::number(loader::load(&rec[40..end], t));
+    if n != 0 {
+        return RestoreAnswer::Table(n);
+    }
+    check_bodies(rec, t)
+}
+
+// Checks a record, any bytes. The words t are work space; where the record is taken, they hold its net.
+pub fn check(rec: &[u8], t: &mut [u32; 1684]) -> RestoreAnswer
+    ensures { λ r. ⌜ restoreAnswerCode r ≡ restoreCode (now (rec .entry)) ⌝ }
+    ensures { λ r. ⌜ restoreAnswerSecond r ≡ restoreSecond (now (rec .entry)) ⌝ }
+    ensures { λ _. ⌜ now (t .exit) ≡ checkedWords (now (rec .entry)) (now (t .entry)) ⌝ }
+{
+    if rec.len() < 40 {
+        return RestoreAnswer::Length;
+    }
+    if 29844 < rec.len() {
+        return RestoreAnswer::Length;
+    }
+    if !words::laid_out(rec, 5) {
+        return RestoreAnswer::Layout;
+    }
+    check_table(rec, t)
+}
+
+// The bytes of `from` become the first bytes of `to`.
+fn copy_front(from: &[u8], to: &mut [u8])
+    requires { ⌜ length (now from) ≤ length (now to) ⌝ }
+    ensures { λ _. ⌜ now (to .exit) ≡ over (now (from .entry)) (now (to .entry)) ⌝ }
+{
+    let mut i = 0;
+    while i < from.len() {
+        to[i] = from[i];
+        i += 1;
+    }
+}
+
+// The record, to which none of 41 to 47 applies, becomes the first bytes of the trail.
+fn put_trail(rec: &[u8], trail: &mut [u8]) -> Resumed
+    requires { ⌜ restoreCode (now rec) ≡ 0 ⌝ }
+    ensures { λ r. ⌜ resumedCode r ≡ takeCode (now (rec .entry)) (length (now (trail .entry))) ⌝ }
+    ensures { λ r. ⌜ resumedSecond r ≡ restoreSecond (now (rec .entry)) ⌝ }
+    ensures { λ _. ⌜ now (trail .exit) ≡ takeBytes (now (rec .entry)) (now (trail .entry)) ⌝ }
+{
+    if trail.len() < rec.len() {
+        return Resumed::Room;
+    }
+    copy_front(rec, trail);
+    Resumed::Taken
+}
+
+// Takes up a record, any bytes: its bytes become the first bytes of the trail. A refusal changes nothing.
+pub fn restore(rec: &[u8], trail: &mut [u8]) -> Resumed
+    ensures { λ r. ⌜ resumedCode r ≡ takeCode (now (rec .entry)) (length (now (trail .entry))) ⌝ }
+    ensures { λ r. ⌜ resumedSecond r ≡ restoreSecond (now (rec .entry)) ⌝ }
+    ensures { λ _. ⌜ now (trail .exit) ≡ takeBytes (now (rec .entry)) (now (trail .entry)) ⌝ }
+{
+    let mut t = [0u32; 1684];
+    match check(rec, &mut t) {
+        RestoreAnswer::Taken => put_trail(rec, trail),
+        RestoreAnswer::Length => Resumed::Length,
+        RestoreAnswer::Layout => Resumed::Layout,
+        RestoreAnswer::Table(n) => Resumed::Table(n),
+        RestoreAnswer::Objects(n) => Resumed::Objects(n),
+        RestoreAnswer::Positions => Resumed::Positions,
+        RestoreAnswer::Counts => Resumed::Counts,
+        RestoreAnswer::Jumps => Resumed::Jumps,
+    }
+}
+
+// Puts down the record of a trail, which is the trail's bytes.
+pub fn save(trail: &[u8], lent: &mut [u8]) -> Saved
+    ensures { λ r. ⌜ savedCode r ≡ saveCode (now (trail .entry)) (length (now (lent .entry))) ⌝ }
+    ensures { λ _. ⌜ now (lent .exit) ≡ saveBytes (now (trail .entry)) (now (lent .entry)) ⌝ }
+{
+    if lent.len() < trail.len() {
+        return Saved::Room;
+    }
+    copy_front(trail, lent);
+    Saved::Taken
+}
