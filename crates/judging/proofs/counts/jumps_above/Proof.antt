@@ -1,4 +1,5 @@
 -- A number of 32 bits times 8 fits. Assumes nothing.
+use mathlib.Core.Path.{refl}
 use native.Mathlib.Nat.{mul-le-mul-left}
 use native.Mathlib.Omega.{arith}
 use borrow.Author.Needs.{needs}
@@ -15,7 +16,7 @@ wide-requires-2 : tie.Need-wide-requires-2
 wide-requires-2 c κs = search needs
 
 returns : tie.Need-returns
-returns c = rw (c .before .wide .ensures, c .wide2 .ensures)
+returns c = rw (c .before .wide .ensures, c .wide2 .ensures) refl
 
 pub jumps-above-spec : {M : Type 1} → statement M
 jumps-above-spec = tie.close (tie.spec wide-requires mul-result wide-requires-2 returns)
