@@ -64,7 +64,7 @@ fn step(
             let n = wide(event.count);
             let act = event.activity;
             let objects = event.objects;
-            events::event::event(rec, t, act, &objects[..n]);
+            events::event::apply(rec, t, act, &objects[..n]);
             Outcome {
                 spot: Spot {
                     from: from + 8 + 4 * n,

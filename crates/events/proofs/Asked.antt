@@ -87,27 +87,24 @@ module _ (w b : List ℕ) (l : Layout) (a : ℕ) (os : List ℕ) (K : Known w b 
       let n : length (take (length os) ks) ≡ length os = simp length-take (omega (arith, few-objects w b l a os (K .counted))) in
       ext-getD 0 (take (length os) ks) (kindsOf (stateAt b .kinds) os) (n ∙ sym kinds-length) (λ i h. getD-take (length os) ks i 0 (omega arith) ∙ f i (omega arith))
 
--- the kinds kept of an event's objects
-module _ (w b : List ℕ) (l : Layout) (a : ℕ) (os ks : List ℕ) (M : Moving w b l a os ks) (i : ℕ) (h : i < length os) where
-  kept-at : getD ks i 0 ≡ getD (kindsOf (stateAt b .kinds) os) i 0
-  kept-at = sym (getD-take (length os) ks i 0 h) ∙ ap (λ (x : List ℕ). getD x i 0) (M .kinds)
+-- the kind of an event's object, and its places
+module _ (w b : List ℕ) (l : Layout) (a : ℕ) (os : List ℕ) (M : Moving w b l a os) (i : ℕ) (h : i < length os) where
+  abbrev kind : ℕ
+  kind = getD (stateAt b .kinds) (getD os i 0) 0
 
-  pub kept-is : getD ks i 0 ≡ getD (stateAt b .kinds) (getD os i 0) 0
-  kept-is = kept-at ∙ kind-is w b l a os (M .known) i h
+  pub own-kind-in : kind < netIn w .kinds
+  own-kind-in = kind-of-in w b l (M .known .counted .ready) (M .known .counted .lay) (getD os i 0) (object-in w b l a os (M .known) i h)
 
-  pub kept-in : getD ks i 0 < netIn w .kinds
-  kept-in = rw kept-at (kind-in w b l a os (M .known) i h)
+  pub own-kind-taken : takes (netIn w) a kind ≡ true
+  own-kind-taken = rw (← kind-is w b l a os (M .known) i h) (All-at (λ (k : ℕ). takes (netIn w) a k ≡ true) 0 (kindsOf (stateAt b .kinds) os) (M .taken) i (omega (arith, kinds-length w b l a os (M .known))))
 
-  pub kept-takes : takes (netIn w) a (getD ks i 0) ≡ true
-  kept-takes = rw kept-at (All-at (λ (k : ℕ). takes (netIn w) a k ≡ true) 0 (kindsOf (stateAt b .kinds) os) (M .taken) i (omega (arith, kinds-length w b l a os (M .known))))
+  arc-good : GoodArc (netIn w) (inputOf (netIn w) a kind, outputOf (netIn w) a kind)
+  arc-good = arc-has (netIn w .kindOf) (GoodArc (netIn w)) kind (netIn w .arcs a) (ready-loaded w b (M .known .counted .ready) .arc-good a (M .known .counted .act-in)) own-kind-taken
 
-  arc-good : GoodArc (netIn w) (inputOf (netIn w) a (getD ks i 0), outputOf (netIn w) a (getD ks i 0))
-  arc-good = arc-has (netIn w .kindOf) (GoodArc (netIn w)) (getD ks i 0) (netIn w .arcs a) (ready-loaded w b (M .known .counted .ready) .arc-good a (M .known .counted .act-in)) kept-takes
-
-  pub inp-in : inputOf (netIn w) a (getD ks i 0) < l .places
+  pub inp-in : inputOf (netIn w) a kind < l .places
   inp-in = omega (arith, arc-good .inp, placed w b l a os (M .known) .places-are)
 
-  pub out-in : outputOf (netIn w) a (getD ks i 0) < l .places
+  pub out-in : outputOf (netIn w) a kind < l .places
   out-in = omega (arith, arc-good .out, placed w b l a os (M .known) .places-are)
 
   pub own-in : (l .counts + (4 + 2 * a) < l .jumps) × (l .jumps ≤ 7461)

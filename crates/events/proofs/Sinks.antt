@@ -19,7 +19,7 @@ use Rattle.replay.specs.Ready.{Ready}
 use Rattle.events.specs.Moves.{moveWords, numbersOf, sunkState}
 use Rattle.replay.specs.declared.layout.Layout.{Layout}
 use Rattle.replay.proofs.Tally.{length-tally}
-use Rattle.replay.proofs.RecordLaws.{Placed, placed-same, withClosing, record-size, get-kind, put-closed, ready-sound}
+use Rattle.replay.proofs.RecordLaws.{Placed, placed-same, withClosing, record-size, put-closed, ready-sound}
 use Rattle.events.proofs.Asked.{placed-at}
 use Rattle.events.proofs.Walk.{Walk, legState, walk-turn, close-counter}
 use Rattle.events.proofs.Steps.{sunk-first}
@@ -36,10 +36,6 @@ upto-first : (n o : ℕ) → o < n → upto (n - o) o ≡ o ∷ upto (n - (o + 1
 upto-first n o h = let e : n - o ≡ suc (n - (o + 1)) = omega arith in ap (λ (j : ℕ). upto j o) e ∙ ap (λ (i : ℕ). o ∷ upto (n - (o + 1)) i) (sym (add-one o))
 
 module _ (N : Net) (table : List ℕ) (l : Layout) (b : ℕ) (ks : List ℕ) (goal : State) (w : List ℕ) (n o : ℕ) (T : Sinking N table l b ks (upto (n - o) o) goal w) where
-  -- the register is as it was
-  pub sink-kind : o < l .objects → getD w (l .register + o) 0 ≡ getD ks o 0
-  sink-kind h = ap (λ (v : List ℕ). getD v (l .register + o) 0) (T .walk .words) ∙ get-kind N table l (T .state) (T .walk .placed) o h ∙ ap (λ (x : List ℕ). getD x o 0) (T .same)
-
   pub sink-turn : (c k : ℕ) → o < n → k ≡ getD ks o 0 → o < l .objects → N .sink k < l .places → b ≤ 4294967295 → b + 1 ≤ c
       → Sinking N table l c ks (upto (n - (o + 1)) (o + 1)) goal (moveWords l (l .counts + 2) o (N .sink k) (N .sink k) w)
   sink-turn c k h q ho hs few more =

@@ -3,12 +3,12 @@ use Prim.Native.Nat.{ℕ, suc, _+_, _*_}
 use mathlib.Core.Path.{_≡_, refl, ap, _∙_}
 use mathlib.Core.List.{List, [], _∷_, map}
 use native.Mathlib.Omega.{arith}
-use lib.ListN.{length, getD, set, take, length-set}
+use lib.ListN.{length, getD, set, length-set}
 use borrow.Author.Tests.{eq-eqb, ne-eqb}
 use Rattle.words.specs.Lists.{keep}
 use Rattle.net.specs.Net.{Net}
 use Rattle.net.specs.Held.{netIn}
-use Rattle.replay.specs.Plain.{Ask, Leg, Hop, jumped, hops, walked, leg, kindsOf}
+use Rattle.replay.specs.Plain.{Ask, Leg, Hop, jumped, hops, walked, leg}
 use Rattle.replay.specs.State.{State, bump, hopIndex, afterEvent, answerS, acceptS}
 use Rattle.replay.specs.Record.{encode, tableIn}
 use Rattle.replay.specs.Calls.{stateAt, askCode, askBytes}
@@ -27,7 +27,7 @@ pub length-walked : (ls : List Leg) (ps : List ℕ) → length (walked ps ls) �
 length-walked [] ps = refl
 length-walked (l ∷ ls) ps = length-walked ls (set ps (l .obj) (l .out)) ∙ length-set ps (l .obj) (l .out)
 
-module _ (w b : List ℕ) (l : Layout) (a : ℕ) (os ks : List ℕ) (M : Moving w b l a os ks) where
+module _ (w b : List ℕ) (l : Layout) (a : ℕ) (os : List ℕ) (M : Moving w b l a os) where
   abbrev d : State
   d = stateAt b
 
@@ -67,13 +67,12 @@ module _ (w b : List ℕ) (l : Layout) (a : ℕ) (os ks : List ℕ) (M : Moving 
   })
 
 -- an event that none of 21 to 27 refuses can be carried out
-pub can-take : (w b : List ℕ) (l : Layout) (a : ℕ) (os ks : List ℕ) → Ready w b → l ≡ layoutOf (netIn w) b → answerS (netIn w) (stateAt b) (askEvent a os) ≡ 0 → take (length os) ks ≡ kindsOf (stateAt b .kinds) os → Moving w b l a os ks
-can-take w b l a os ks R e z k =
+pub can-take : (w b : List ℕ) (l : Layout) (a : ℕ) (os : List ℕ) → Ready w b → l ≡ layoutOf (netIn w) b → answerS (netIn w) (stateAt b) (askEvent a os) ≡ 0 → Moving w b l a os
+can-take w b l a os R e z =
     let t = accepted (netIn w) (stateAt b .kinds) (stateAt b .closed) (stateAt b .events) (record { act = a; objs = os }) z in
     record {
       known = record { counted = record { ready = R; lay = e; act-in = t .fits .act-in; size = t .fits .size }; known = t .fits .known };
       taken = t .fits .taken;
-      kinds = k;
     }
 
 -- the answer to a call, and the bytes that it leaves

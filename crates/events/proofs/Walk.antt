@@ -1,6 +1,6 @@
 -- One object moved in a record's numbers: what it asks, how it changes them, and the state that they hold then. Assumes nothing.
 use Prim.Native.Nat.{ℕ, suc, _+_, _*_, _≤_, _<_}
-use mathlib.Core.Bool.{Bool, true, false, not}
+use mathlib.Core.Bool.{Bool, true, false}
 use mathlib.Core.Path.{_≡_, refl, ap, _∙_}
 use mathlib.Core.List.{List}
 use native.Mathlib.Omega.{arith}
@@ -15,7 +15,7 @@ use Rattle.replay.specs.State.{State, bump}
 use Rattle.events.specs.Moves.{placeAt, pairAt, jumpWords, moveWords, CanAdd, CanJump, CanMove}
 use Rattle.replay.specs.declared.layout.Layout.{Layout}
 use Rattle.replay.proofs.Encode.{recordWords}
-use Rattle.replay.proofs.RecordLaws.{Placed, placed-same, withPlaces, withPairs, withJumps, withClosing, record-size, record-few, get-place, get-pair, get-jumps, get-closing, put-place, put-pair, put-jumps, put-closing}
+use Rattle.replay.proofs.RecordLaws.{Placed, placed-same, withPlaces, withPairs, withJumps, withClosing, record-size, record-few, get-kind, get-place, get-pair, get-jumps, get-closing, put-place, put-pair, put-jumps, put-closing}
 
 pub length-jump : (l : Layout) (own p q : ℕ) (w : List ℕ) → length (jumpWords l own p q w) ≡ length w
 unfolding jumpWords
@@ -70,6 +70,13 @@ module _ (N : Net) (table : List ℕ) (l : Layout) (b : ℕ) (d : State) (w : Li
 
   pub walk-few : length w ≤ 7461
   walk-few = rw (W .words) (record-few N table l d (W .placed))
+
+  -- the register's numbers
+  pub register-in : (o : ℕ) → o < l .objects → l .register + o < length w
+  register-in o h = omega (arith, walk-size, W .placed .positions-at, W .placed .counts-at, W .placed .jumps-at)
+
+  pub register-kind : (ks : List ℕ) → d .kinds ≡ ks → (o : ℕ) → o < l .objects → getD w (l .register + o) 0 ≡ getD ks o 0
+  register-kind ks e o h = ap (λ (v : List ℕ). getD v (l .register + o) 0) (W .words) ∙ get-kind N table l d (W .placed) o h ∙ ap (λ (x : List ℕ). getD x o 0) e
 
   -- a count can be raised
   pub can-add : (j : ℕ) → l .counts ≤ j → j < l .jumps → b ≤ 4294967295 → CanAdd j w

@@ -3,7 +3,7 @@ use Prim.Native.Nat.{ℕ, _<_}
 use mathlib.Core.Bool.{Bool, true, not}
 use mathlib.Core.Path.{_≡_}
 use mathlib.Core.List.{List, [], _∷_}
-use lib.ListN.{length, take}
+use lib.ListN.{length}
 use lib.Dec.{leb}
 use Rattle.words.specs.Lists.{any, twice, All}
 use Rattle.net.specs.Net.{Net, takes}
@@ -59,8 +59,7 @@ pub record Known (w b : List ℕ) (l : Layout) (a : ℕ) (os : List ℕ) : Type 
   pub counted : Counted w b l a os
   pub known : All (λ (o : ℕ). o < length (stateAt b .kinds)) os
 
--- and the activity takes their kinds, which stand in `ks`
-pub record Moving (w b : List ℕ) (l : Layout) (a : ℕ) (os ks : List ℕ) : Type 0 where
+-- and the activity takes their kinds
+pub record Moving (w b : List ℕ) (l : Layout) (a : ℕ) (os : List ℕ) : Type 0 where
   pub known : Known w b l a os
   pub taken : All (λ (k : ℕ). takes (netIn w) a k ≡ true) (kindsOf (stateAt b .kinds) os)
-  pub kinds : take (length os) ks ≡ kindsOf (stateAt b .kinds) os

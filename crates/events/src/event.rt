@@ -102,43 +102,29 @@ fn two_of_kind(kinds: &[usize; 8], n: usize) -> bool
     found
 }
 
-// 25 to 27: the tests of an event's objects. Where none applies, their kinds are kept.
-fn refuse_objects(
-    rec: &[u8],
-    t: &[u32; 1684],
-    lay: Layout,
-    act: usize,
-    objs: &[u32],
-    kinds: &mut [usize; 8],
-) -> EventAnswer
+// 25 to 27: the tests of an event's objects.
+fn refuse_objects(rec: &[u8], t: &[u32; 1684], lay: Layout, act: usize, objs: &[u32]) -> EventAnswer
     requires { ⌜ Counted (now t) (now rec) lay act (now objs) ⌝ }
-    requires { ⌜ length (now kinds) ≡ 8 ⌝ }
-    ensures { λ r. ⌜ (eventCode r ≡ first (objectTests (netIn (now (t .entry))) (stateAt (now (rec .entry)) .kinds) act (now (objs .entry)))) × (eventCode r ≡ 0 → take (length (now (objs .entry))) (now (kinds .exit)) ≡ kindsOf (stateAt (now (rec .entry)) .kinds) (now (objs .entry))) ⌝ }
+    ensures { λ r. ⌜ eventCode r ≡ first (objectTests (netIn (now (t .entry))) (stateAt (now (rec .entry)) .kinds) act (now (objs .entry))) ⌝ }
 {
     if unknown(lay.objects, objs) {
         return EventAnswer::Object;
     }
-    if foreign(rec, t, lay, act, objs, kinds) {
+    let mut kinds = [0usize; 8];
+    if foreign(rec, t, lay, act, objs, &mut kinds) {
         return EventAnswer::Kind;
     }
-    if two_of_kind(kinds, objs.len()) {
+    if two_of_kind(&kinds, objs.len()) {
         return EventAnswer::TwoOfKind;
     }
     EventAnswer::Taken
 }
 
-// 21 to 27: the first that applies. Where none does, the kinds of the objects are kept.
-fn refuse(
-    rec: &[u8],
-    t: &[u32; 1684],
-    lay: Layout,
-    act: usize,
-    objs: &[u32],
-    kinds: &mut [usize; 8],
-) -> EventAnswer
+// 21 to 27: the first that applies.
+fn refuse(rec: &[u8], t: &[u32; 1684], lay: Layout, act: usize, objs: &[u32]) -> EventAnswer
     requires { ⌜ Ready (now t) (now rec) ⌝ }
-    requires { ⌜ (lay ≡ layoutOf (netIn (now t)) (now rec)) × (length (now kinds) ≡ 8) ⌝ }
-    ensures { λ r. ⌜ (eventCode r ≡ answerS (netIn (now (t .entry))) (stateAt (now (rec .entry))) (askEvent act (now (objs .entry)))) × (eventCode r ≡ 0 → take (length (now (objs .entry))) (now (kinds .exit)) ≡ kindsOf (stateAt (now (rec .entry)) .kinds) (now (objs .entry))) ⌝ }
+    requires { ⌜ lay ≡ layoutOf (netIn (now t)) (now rec) ⌝ }
+    ensures { λ r. ⌜ eventCode r ≡ answerS (netIn (now (t .entry))) (stateAt (now (rec .entry))) (askEvent act (now (objs .entry))) ⌝ }
 {
     if words::get_word(rec, lay.counts) != 0 {
         return EventAnswer::Closed;
@@ -152,53 +138,43 @@ fn refuse(
     if objs.len() != net::look::arcs(t, act) {
         return EventAnswer::Number;
     }
-    refuse_objects(rec, t, lay, act, objs, kinds)
+    refuse_objects(rec, t, lay, act, objs)
 }
 
 // Every object of the event jumps where it has to, and is moved.
-fn step_objects(
-    rec: &mut [u8],
-    t: &[u32; 1684],
-    lay: Layout,
-    act: usize,
-    objs: &[u32],
-    kinds: &[usize; 8],
-)
-    requires { ⌜ Moving (now t) (now rec) lay act (now objs) (now kinds) ⌝ }
+fn step_objects(rec: &mut [u8], t: &[u32; 1684], lay: Layout, act: usize, objs: &[u32])
+    requires { ⌜ Moving (now t) (now rec) lay act (now objs) ⌝ }
     ensures { λ _. ⌜ wordsOf (now (rec .exit)) ≡ numbersOf (tableIn (now (rec .entry))) (movedState (netIn (now (t .entry))) (stateAt (now (rec .entry))) act (now (objs .entry))) ⌝ }
 {
     let mut done = 0;
     while done < objs.len() {
-        let k = kinds[done];
+        let o = words::wide(objs[done]);
+        let k = words::wide(words::get_word(rec, lay.register + o));
         let inp = net::look::input(t, act, k);
         let out = net::look::output(t, act, k) as u32;
-        move_object(
-            rec,
-            lay,
-            lay.counts + (4 + 2 * act),
-            objs[done] as usize,
-            inp,
-            out,
-        );
+        move_object(rec, lay, lay.counts + (4 + 2 * act), o, inp, out);
         done += 1;
     }
 }
 
 // An event to which none of 21 to 27 applies is carried out and counted.
-fn take_event(
-    rec: &mut [u8],
-    t: &[u32; 1684],
-    lay: Layout,
-    act: usize,
-    objs: &[u32],
-    kinds: &[usize; 8],
-)
-    requires { ⌜ Moving (now t) (now rec) lay act (now objs) (now kinds) ⌝ }
+fn take_event(rec: &mut [u8], t: &[u32; 1684], lay: Layout, act: usize, objs: &[u32])
+    requires { ⌜ Moving (now t) (now rec) lay act (now objs) ⌝ }
     ensures { λ _. ⌜ wordsOf (now (rec .exit)) ≡ numbersOf (tableIn (now (rec .entry))) (afterEvent (netIn (now (t .entry))) (stateAt (now (rec .entry))) (record { act = act; objs = now (objs .entry) })) ⌝ }
 {
-    step_objects(rec, t, lay, act, objs, kinds);
+    step_objects(rec, t, lay, act, objs);
     add_one(rec, lay.counts + 1);
     add_one(rec, lay.counts + (3 + 2 * act));
+}
+
+// Carries out an event to which none of 21 to 27 applies, as the caller has found; it is not tested again.
+pub fn apply(rec: &mut [u8], t: &[u32; 1684], act: u32, objs: &[u32])
+    requires { ⌜ Ready (now t) (now rec) ⌝ }
+    requires { ⌜ askCode (now rec) (askEvent act (now objs)) ≡ 0 ⌝ }
+    ensures { λ _. ⌜ now (rec .exit) ≡ askBytes (now (rec .entry)) (askEvent act (now (objs .entry))) ⌝ }
+{
+    let lay = read_layout(rec, t);
+    take_event(rec, t, lay, act as usize, objs);
 }
 
 // Puts an event to a trail: it is refused and nothing changes, or it is carried out in the record's bytes.
@@ -207,11 +183,10 @@ pub fn event(rec: &mut [u8], t: &[u32; 1684], act: u32, objs: &[u32]) -> EventAn
     ensures { λ r. ⌜ (eventCode r ≡ askCode (now (rec .entry)) (askEvent act (now (objs .entry)))) × (now (rec .exit) ≡ askBytes (now (rec .entry)) (askEvent act (now (objs .entry)))) ⌝ }
 {
     let lay = read_layout(rec, t);
-    let mut kinds = [0usize; 8];
-    let answer = refuse(rec, t, lay, act as usize, objs, &mut kinds);
+    let answer = refuse(rec, t, lay, act as usize, objs);
     match answer {
         EventAnswer::Taken => {
-            take_event(rec, t, lay, act as usize, objs, &kinds);
+            take_event(rec, t, lay, act as usize, objs);
             EventAnswer::Taken
         }
         _ => answer,

@@ -2,7 +2,6 @@
 
 use replay::layout::Layout;
 ghost use mathlib.Core.Path.{_≡_};
-ghost use Prim.Native.Nat.{_<_};
 ghost use Rattle.words.specs.Words.{wordsOf};
 ghost use Rattle.replay.specs.State.{bump};
 ghost use Rattle.events.specs.Moves.{jumpWords, moveWords, CanAdd, CanJump, CanMove};

@@ -1,21 +1,19 @@
 -- Laws of `objectsAt`, and of numbers stored over an array of eight. Assumes nothing.
 use Prim.Native.Nat.{ℕ, zero, suc, _+_, _-_, _*_, _≤_, _<_}
-use mathlib.Core.Bool.{Bool, true, false}
-use mathlib.Core.Path.{_≡_, refl, ap, sym, subst, _∙_}
+use mathlib.Core.Bool.{Bool, true, false, not}
+use mathlib.Core.Path.{_≡_, refl, ap, subst, _∙_}
 use mathlib.Core.List.{List, [], _∷_}
 use native.Mathlib.Numerals.{add-one}
 use native.Mathlib.Omega.{arith}
 use lib.Dec.{leb}
 use lib.ListN.{length, getD, set, take, replicate, length-map}
-use lib.Seq.{sets, length-sets, getD-take}
-use borrow.Author.Tests.{leb-false}
-use Rattle.words.specs.Lists.{any}
+use lib.Seq.{sets, length-sets}
+use borrow.Author.Tests.{le-leb, lt-leb}
+use Rattle.words.specs.Lists.{pick, any}
 use Rattle.words.specs.Words.{word}
-use Rattle.words.proofs.Lists.{All-at, any-none, map-at}
-use Rattle.net.specs.Net.{Net}
+use Rattle.net.specs.Net.{Net, takes}
 use Rattle.net.proofs.Sets.{view-same}
 use Rattle.replay.specs.Plain.{kindsOf}
-use Rattle.tracefile.specs.Parts.{Known}
 use Rattle.tracefile.specs.Trace.{objectsAt}
 
 pub length-objects : (b : List ℕ) (i n : ℕ) → length (objectsAt b i n) ≡ n
@@ -33,16 +31,27 @@ module _ (b : List ℕ) (n i : ℕ) where
   pub objects-none : n ≤ i → objectsAt b (8 + 4 * i) (n - i) ≡ []
   objects-none h = let e : n - i ≡ 0 = omega arith in rw e
 
--- a search: the element in front fails the test, passes it, there is none
-module _ (f : ℕ → Bool) (all : List ℕ) where
-  pub any-past : (x : ℕ) (rest : List ℕ) → all ≡ x ∷ rest → f x ≡ false → any f rest ≡ any f all
-  any-past x rest e p = rw (e, p)
+-- 25, else 26, else what was found before, by the objects left
+abbrev pub kindsLeft : Net → List ℕ → ℕ → List ℕ → ℕ → ℕ
+kindsLeft N ks a os code = pick (any (λ (o : ℕ). leb (length ks) o) os) 25 (pick (any (λ (k : ℕ). not (takes N a k)) (kindsOf ks os)) 26 code)
 
-  pub any-here : (x : ℕ) (rest : List ℕ) → all ≡ x ∷ rest → f x ≡ true → true ≡ any f all
-  any-here x rest e p = rw (e, p)
+-- the object in front is unknown, is known, there is none
+module _ (N : Net) (ks : List ℕ) (a code : ℕ) (all : List ℕ) where
+  pub left-unknown : (x : ℕ) (rest : List ℕ) → all ≡ x ∷ rest → length ks ≤ x → 25 ≡ kindsLeft N ks a all code
+  left-unknown x rest e h = rw (e, le-leb (length ks) x h)
 
-  pub any-over : all ≡ [] → false ≡ any f all
-  any-over e = rw e
+  pub left-known : (x : ℕ) (rest : List ℕ) → all ≡ x ∷ rest → x < length ks → kindsLeft N ks a rest (pick (not (takes N a (getD ks x 0))) 26 code) ≡ kindsLeft N ks a all code
+  left-known x rest e h =
+      rw (e, lt-leb (length ks) x h) (go (any (λ (o : ℕ). leb (length ks) o) rest) (not (takes N a (getD ks x 0))) (any (λ (k : ℕ). not (takes N a k)) (kindsOf ks rest)))
+    where
+      go : (u f r : Bool) → pick u 25 (pick r 26 (pick f 26 code)) ≡ pick u 25 (pick (pick f true r) 26 code)
+      go true f r = refl
+      go false true true = refl
+      go false true false = refl
+      go false false r = refl
+
+  pub left-none : all ≡ [] → code ≡ kindsLeft N ks a all code
+  left-none e = rw e
 
 -- one more element is stored
 pub store-one : (xs : List ℕ) (i x y : ℕ) (rest all : List ℕ) → all ≡ y ∷ rest → x ≡ y → sets (set xs i x) (i + 1) rest ≡ sets xs i all
@@ -52,23 +61,27 @@ store-one xs i x y rest all e p = rw (e, p, add-one)
 pub first-of-eight : (xs : List ℕ) (n : ℕ) → length xs ≡ n → n ≤ 8 → take n (sets (replicate 8 0) 0 xs) ≡ xs
 first-of-eight xs n e h = subst (λ (k : ℕ). take k (sets (replicate 8 0) 0 xs) ≡ xs) e (view-same (replicate 8 0) 0 xs (omega (arith, e)))
 
--- the kinds of n objects, all of them known, stored over eight zeros
-module _ (N : Net) (ks : List ℕ) (K : Known N ks) (os : List ℕ) (n : ℕ) (size : length os ≡ n) (few : n ≤ 8) where
-  length-kinds : length (kindsOf ks os) ≡ n
-  length-kinds = length-map os (λ (o : ℕ). getD ks o 0) ∙ size
+-- the kinds of n objects, stored over eight zeros
+module _ (ks os : List ℕ) (n : ℕ) (size : length os ≡ n) (few : n ≤ 8) (kinds : List ℕ) (filled : kinds ≡ sets (replicate 8 0) 0 (kindsOf ks os)) where
+  pub kinds-length : length kinds ≡ 8
+  kinds-length = ap length filled ∙ length-sets (replicate 8 0) 0 (kindsOf ks os)
 
-  module _ (kinds : List ℕ) (filled : kinds ≡ sets (replicate 8 0) 0 (kindsOf ks os)) (known : any (λ (o : ℕ). leb (length ks) o) os ≡ false) where
-    pub kinds-length : length kinds ≡ 8
-    kinds-length = ap length filled ∙ length-sets (replicate 8 0) 0 (kindsOf ks os)
+  pub kinds-front : take n kinds ≡ kindsOf ks os
+  kinds-front = ap (take n) filled ∙ first-of-eight (kindsOf ks os) n (length-map os (λ (o : ℕ). getD ks o 0) ∙ size) few
 
-    pub kinds-front : take n kinds ≡ kindsOf ks os
-    kinds-front = ap (take n) filled ∙ first-of-eight (kindsOf ks os) n length-kinds few
+-- object i of n, and 0 behind them
+abbrev slot : List ℕ → ℕ → ℕ → ℕ
+slot w n i = pick (leb n i) 0 (word w (8 + 4 * i))
 
-    pub kinds-below : (i : ℕ) → i < n → getD kinds i 0 < N .kinds
-    kinds-below i h =
-        let l : i < length os = omega arith in
-        let o : getD os i 0 < length ks =
-        All-at (λ (o : ℕ). o < length ks) 0 os (any-none (λ (o : ℕ). leb (length ks) o) (λ (o : ℕ). o < length ks) (λ x e. leb-false (length ks) x e) os known) i l in
-        subst (λ (k : ℕ). k < N .kinds)
-        (sym (sym (getD-take n kinds i 0 h) ∙ ap (λ (xs : List ℕ). getD xs i 0) kinds-front ∙ map-at (λ (o : ℕ). getD ks o 0) 0 0 os i l))
-        (K .kind (getD os i 0) o)
+pub eight-slots : (w : List ℕ) (n : ℕ) → n ≤ 8
+    → slot w n 0 ∷ slot w n 1 ∷ slot w n 2 ∷ slot w n 3 ∷ slot w n 4 ∷ slot w n 5 ∷ slot w n 6 ∷ slot w n 7 ∷ [] ≡ sets (replicate 8 0) 0 (objectsAt w 8 n)
+eight-slots w zero h = refl
+eight-slots w (suc zero) h = refl
+eight-slots w (suc (suc zero)) h = refl
+eight-slots w (suc (suc (suc zero))) h = refl
+eight-slots w (suc (suc (suc (suc zero)))) h = refl
+eight-slots w (suc (suc (suc (suc (suc zero))))) h = refl
+eight-slots w (suc (suc (suc (suc (suc (suc zero)))))) h = refl
+eight-slots w (suc (suc (suc (suc (suc (suc (suc zero))))))) h = refl
+eight-slots w (suc (suc (suc (suc (suc (suc (suc (suc zero)))))))) h = refl
+eight-slots w (suc (suc (suc (suc (suc (suc (suc (suc (suc n))))))))) h = absurd (omega arith)

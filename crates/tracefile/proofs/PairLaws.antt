@@ -1,48 +1,46 @@
--- `has` and `twice` from a place of the first n elements on. Assumes nothing.
-use Prim.Native.Nat.{ℕ, _+_, _≤_, _<_}
+-- Two equal numbers among the first n of a list, by their indices. Assumes nothing.
+use Prim.Native.Nat.{ℕ, zero, suc, _≤_, _<_}
 use mathlib.Core.Bool.{Bool, true, false}
-use mathlib.Core.Path.{_≡_, ap, sym, _∙_}
+use mathlib.Core.Path.{_≡_, refl, sym, _∙_}
 use mathlib.Core.List.{List, [], _∷_}
-use native.Mathlib.Numerals.{add-one}
-use lib.ListN.{length, getD, take, drop, drop-of-length-le}
-use lib.Seq.{drop-cons, getD-take, length-take-le}
+use native.Mathlib.Omega.{arith}
+use lib.Dec.{eqb}
+use lib.ListN.{length, getD, take}
+use lib.Seq.{getD-take, length-take-le}
 use borrow.Author.Tests.{eq-eqb, ne-eqb}
-use Rattle.words.specs.Lists.{pick, any, has, twice}
+use Rattle.words.specs.Lists.{pick, has, twice}
+use Rattle.words.proofs.Lists.{All-of, any-false}
+
+-- the number at each of the first i indices differs from those before it
+abbrev pub Apart : List ℕ → ℕ → Type 0
+Apart xs i = (a : ℕ) → a < i → (b : ℕ) → b < a → getD xs a 0 ≡ getD xs b 0 → ⊥
+
+either-way : (b : Bool) → pick b true true ≡ true
+either-way true = refl
+either-way false = refl
+
+has-at : (x : ℕ) (xs : List ℕ) (i : ℕ) → i < length xs → x ≡ getD xs i 0 → has x xs ≡ true
+has-at x [] i h e = absurd (omega arith)
+has-at x (y ∷ xs) zero h e = rw (eq-eqb x y e)
+has-at x (y ∷ xs) (suc i) h e = rw (has-at x xs i (omega arith) e) (either-way (eqb x y))
+
+twice-at : (xs : List ℕ) (i j : ℕ) → i < length xs → j < i → getD xs i 0 ≡ getD xs j 0 → twice xs ≡ true
+twice-at [] i j h l e = absurd (omega arith)
+twice-at (x ∷ xs) zero j h l e = absurd (omega arith)
+twice-at (x ∷ xs) (suc i) zero h l e = rw (has-at x xs i (omega arith) (sym e))
+twice-at (x ∷ xs) (suc i) (suc j) h l e = rw (twice-at xs i j (omega arith) (omega arith) e) (either-way (has x xs))
+
+twice-not : (xs : List ℕ) → Apart xs (length xs) → twice xs ≡ false
+twice-not [] f = refl
+twice-not (x ∷ xs) f =
+    let n : has x xs ≡ false =
+    any-false (eqb x) xs (All-of (λ (y : ℕ). eqb x y ≡ false) 0 xs (λ i h. ne-eqb x (getD xs i 0) (λ e. f (suc i) (omega arith) 0 (omega arith) (sym e)))) in
+    rw n (twice-not xs (λ a h b l e. f (suc a) (omega arith) (suc b) (omega arith) e))
 
 module _ (l : List ℕ) (n : ℕ) (fits : n ≤ length l) where
-  -- what stands from j on
-  pub left-cons : (j : ℕ) → j < n → drop j (take n l) ≡ getD l j 0 ∷ drop (j + 1) (take n l)
-  left-cons j h =
-      let w : j < length (take n l) = rw length-take-le h in
-      drop-cons (take n l) j 0 w ∙ rw (add-one, getD-take)
+  pub pair-found : (i j : ℕ) → i < n → j < i → getD l i 0 ≡ getD l j 0 → true ≡ twice (take n l)
+  pair-found i j h k e = sym (twice-at (take n l) i j (rw length-take-le h) k (getD-take n l i 0 h ∙ e ∙ sym (getD-take n l j 0 (omega arith))))
 
-  pub left-none : (j : ℕ) → n ≤ j → drop j (take n l) ≡ []
-  left-none j h =
-      let w : length (take n l) ≤ j = rw length-take-le h in
-      drop-of-length-le (take n l) w
-
-  pub pair-opened : (i : ℕ) → i < n → pick (has (getD l i 0) (drop (i + 1) (take n l))) true (twice (drop (i + 1) (take n l))) ≡ twice (drop i (take n l))
-  pair-opened i h = sym (ap twice (left-cons i h))
-
-  pub pair-same : (x j : ℕ) → j < n → x ≡ getD l j 0 → has x (drop j (take n l)) ≡ true
-  pair-same x j h e = ap (has x) (left-cons j h) ∙ simp (eq-eqb x (getD l j 0) e)
-
-  pub pair-other : (x j : ℕ) → j < n → (x ≡ getD l j 0 → ⊥) → has x (drop (j + 1) (take n l)) ≡ has x (drop j (take n l))
-  pair-other x j h e = sym (ap (has x) (left-cons j h) ∙ simp (ne-eqb x (getD l j 0) e))
-
-  pub pair-past : (x j : ℕ) → n ≤ j → has x (drop j (take n l)) ≡ false
-  pair-past x j h = ap (has x) (left-none j h)
-
-  pub pair-done : (i : ℕ) → n ≤ i → twice (drop i (take n l)) ≡ false
-  pair-done i h = ap twice (left-none i h)
-
-  -- a search among the first n: the element fails the test, passes it, none is left
-  module _ (f : ℕ → Bool) (i : ℕ) where
-    pub search-turn : i < n → f (getD l i 0) ≡ false → any f (drop (i + 1) (take n l)) ≡ any f (drop i (take n l))
-    search-turn h e = sym (ap (any f) (left-cons i h) ∙ rw e)
-
-    pub search-found : i < n → f (getD l i 0) ≡ true → true ≡ any f (drop i (take n l))
-    search-found h e = sym (ap (any f) (left-cons i h) ∙ rw e)
-
-    pub search-end : n ≤ i → false ≡ any f (drop i (take n l))
-    search-end h = sym (ap (any f) (left-none i h))
+  pub pair-none : Apart l n → false ≡ twice (take n l)
+  pair-none f = sym (twice-not (take n l)
+      (λ a h b k e. let w : a < n = rw length-take-le at h in f a w b k (sym (getD-take n l a 0 w) ∙ e ∙ getD-take n l b 0 (omega arith))))

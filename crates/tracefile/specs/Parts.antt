@@ -1,7 +1,7 @@
 -- The tests of a read in the parts in which they are made, and what each part may rely on.
 use Prim.Native.Nat.{ℕ, _+_, _*_, _≤_, _<_}
 use mathlib.Core.Bool.{Bool, not}
-use mathlib.Core.List.{List, [], _∷_}
+use mathlib.Core.List.{List, [], _∷_, _++_}
 use lib.ListN.{length, getD}
 use lib.Dec.{ltb, leb, eqb}
 use Rattle.words.specs.Lists.{any, twice}
@@ -39,13 +39,16 @@ frontTests N accepted w body at =
     ∷ (leb 1000000 accepted, 22)
     ∷ countTests N w body at
 
--- 26, 27, by the kinds of the objects of an event
-abbrev pub kindTests : Net → ℕ → List ℕ → List (Bool × ℕ)
-kindTests N a kinds = (any (λ (k : ℕ). not (takes N a k)) kinds, 26) ∷ (twice kinds, 27) ∷ []
+-- 25, 26
+abbrev pub kindTests : Net → List ℕ → ℕ → List ℕ → List (Bool × ℕ)
+kindTests N ks a os =
+    (any (λ (o : ℕ). leb (length ks) o) os, 25)
+    ∷ (any (λ (k : ℕ). not (takes N a k)) (kindsOf ks os), 26)
+    ∷ []
 
 -- 25, 26, 27
 abbrev pub objectTests : Net → List ℕ → ℕ → List ℕ → List (Bool × ℕ)
-objectTests N ks a os = (any (λ (o : ℕ). leb (length ks) o) os, 25) ∷ kindTests N a (kindsOf ks os)
+objectTests N ks a os = kindTests N ks a os ++ (twice (kindsOf ks os), 27) ∷ []
 
 -- an event in the window w whose numbers are all there, of a known activity, with as many objects as it has arcs
 pub record Ready (N : Net) (w : List ℕ) (at : ℕ) : Type 0 where

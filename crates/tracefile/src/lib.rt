@@ -1,6 +1,7 @@
 // The trail file: opening it, and reading its events one by one.
 // Above `words`, `net` and `replay`; it uses a table only through what loading promises.
 
+use crate::objects::read_objects;
 use crate::objects::refuse_objects;
 use crate::open::read_contents;
 use net::look::acts;
@@ -133,11 +134,11 @@ fn read_event(window: &[u8], at: usize, register: &[u8], t: &[u32; 1684]) -> Ans
     let activity = word_at(window, 0);
     let count = word_at(window, 4);
     let n = wide(count);
-    let mut objects = [0u32; 8];
-    let code = refuse_objects(window, n, wide(activity), register, t, &mut objects);
+    let code = refuse_objects(window, n, wide(activity), register, t);
     if code != 0 {
         return nothing(Found::Refused(code), at);
     }
+    let objects = read_objects(window, n);
     Answer {
         found: Found::Event,
         event: Event {

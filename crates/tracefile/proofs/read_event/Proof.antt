@@ -14,6 +14,19 @@ use borrow.Author.Needs.{needs}
 use Rattle.tracefile.proofs.read_event.Statement.{statement}
 use Rattle.tracefile.proofs.read_event.Tie as tie
 
+-- how many objects there are, the number of the refusal, and the objects
+count : (c : tie.After-refuse-objects) → c .before .before .wide .result ≡ word (c .before .before .before .before .before .before .before .args .window .now) 4
+count c = c .before .before .wide .ensures ∙ c .before .before .before .word-at2 .ensures
+
+code : (c : tie.After-refuse-objects) → c .refuse-objects .result ≡ first (objectTests (netIn (c .before .before .before .before .before .before .before .args .t .now)) (wordsOf (c .before .before .before .before .before .before .before .args .register .now)) (word (c .before .before .before .before .before .before .before .args .window .now) 0) (objectsAt (c .before .before .before .before .before .before .before .args .window .now) 8 (word (c .before .before .before .before .before .before .before .args .window .now) 4)))
+code c =
+    let a = c .before .before .before .before .before .before .before .args in
+    c .refuse-objects .ensures
+    ∙ ap₂ (λ (x n : ℕ). first (objectTests (netIn (a .t .now)) (wordsOf (a .register .now)) x (objectsAt (a .window .now) 8 n))) (c .before .wide2 .ensures ∙ c .before .before .before .before .word-at .ensures) (count c)
+
+stored : (c : tie.After-read-objects) → c .read-objects .result ≡ sets (replicate 8 0) 0 (objectsAt (c .before .before .before .before .before .before .before .before .before .args .window .now) 8 (word (c .before .before .before .before .before .before .before .before .before .args .window .now) 4))
+stored c = c .read-objects .ensures ∙ ap (λ (n : ℕ). sets (replicate 8 0) 0 (objectsAt (c .before .before .before .before .before .before .before .before .before .args .window .now) 8 n)) (count (c .before .before))
+
 word-at-requires : tie.Need-word-at-requires
 word-at-requires c κs = search needs
 
@@ -27,44 +40,34 @@ wide-requires-2 : tie.Need-wide-requires-2
 wide-requires-2 c κs = search needs
 
 refuse-objects-requires : tie.Need-refuse-objects-requires
-refuse-objects-requires c κs = let s = c .before .before .before .before .before .before .before in
+refuse-objects-requires c κs = let s = c .before .before .before .before .before .before in
     let r = s .pre .1 .1 in
     (s .pre .0, (s .pre .1 .0, (omega (arith, r .few), omega (arith, r .room), omega (arith, r .act))))
 
 nothing-requires : tie.Need-nothing-requires
 nothing-requires c κs = search needs
 
--- how many objects there are, and the number of the refusal
-count : (c : tie.After-refuse-objects) → c .before .before .before .wide .result ≡ word (c .before .before .before .before .before .before .before .before .args .window .now) 4
-count c = c .before .before .before .wide .ensures ∙ c .before .before .before .before .word-at2 .ensures
-
-code : (c : tie.After-refuse-objects) → c .refuse-objects .result ≡ first (objectTests (netIn (c .before .before .before .before .before .before .before .before .args .t .now)) (wordsOf (c .before .before .before .before .before .before .before .before .args .register .now)) (word (c .before .before .before .before .before .before .before .before .args .window .now) 0) (objectsAt (c .before .before .before .before .before .before .before .before .args .window .now) 8 (word (c .before .before .before .before .before .before .before .before .args .window .now) 4)))
-code c =
-    let a = c .before .before .before .before .before .before .before .before .args in
-    c .refuse-objects .ensures .0
-    ∙ ap₂ (λ (x n : ℕ). first (objectTests (netIn (a .t .now)) (wordsOf (a .register .now)) x (objectsAt (a .window .now) 8 n))) (c .before .before .wide2 .ensures ∙ c .before .before .before .before .before .word-at .ensures) (count c)
-
-stored : (c : tie.Else1) → c .before .refuse-objects .last .1 .1 .1 .1 .1 .0 ≡ sets (replicate 8 0) 0 (objectsAt (c .before .before .before .before .before .before .before .before .before .args .window .now) 8 (word (c .before .before .before .before .before .before .before .before .before .args .window .now) 4))
-stored c = c .before .refuse-objects .ensures .1 (c .if1 .left) ∙ ap (λ (n : ℕ). sets (replicate 8 0) 0 (objectsAt (c .before .before .before .before .before .before .before .before .before .args .window .now) 8 n)) (count (c .before))
-
 returns : tie.Need-returns
 unfolding objectsFound
 returns c = c .nothing .ensures ∙ refused-is _ _ _ _ (code (c .before .before)) (c .before .if1 .taken)
 
+read-objects-requires : tie.Need-read-objects-requires
+read-objects-requires c κs = search needs
+
 add-t10 : tie.Need-add-t10
 add-t10 c = search needs
 
-mul-t17 : tie.Need-mul-t17
-mul-t17 c = search needs
+mul-t15 : tie.Need-mul-t15
+mul-t15 c = search needs
 
-add-t18 : tie.Need-add-t18
-add-t18 c = search needs
+add-t16 : tie.Need-add-t16
+add-t16 c = search needs
 
 returns-2 : tie.Need-returns-2
 unfolding objectsFound
 returns-2 c = let a = c .before .before .before .before .before .before .before .before .before .args in
     let o = stored c in
-    (cc) ∙ sym (unless-taken _ (eventFound (a .window .now) 0 (a .at)) (a .at) (sym (code (c .before)) ∙ c .if1 .left))
+    (cc) ∙ sym (unless-taken _ (eventFound (a .window .now) 0 (a .at)) (a .at) (sym (code (c .before .before)) ∙ c .before .if1 .left))
 
 pub read-event-spec : {M : Type 1} → statement M
 read-event-spec =
@@ -77,7 +80,8 @@ read-event-spec =
     refuse-objects-requires
     nothing-requires
     returns
+    read-objects-requires
     add-t10
-    mul-t17
-    add-t18
+    mul-t15
+    add-t16
     returns-2)

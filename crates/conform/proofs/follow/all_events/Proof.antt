@@ -1,6 +1,6 @@
 -- The turns are counted. Assumes nothing.
 use Prim.Native.Nat.{_≤_}
-use mathlib.Core.Path.{_≡_, ap, sym, subst, refl}
+use mathlib.Core.Path.{_≡_, sym, subst, refl}
 use native.Mathlib.Omega.{arith}
 use lib.ListN.{length}
 use Rattle.conform.specs.Trail.{Follows}

@@ -76,11 +76,13 @@ wide-requires c κs = search needs
 array-share-prefix-objects : tie.Need-array-share-prefix-objects
 array-share-prefix-objects c = let h = handed-at (c .before .before) in omega (arith, h .few, h .eight)
 
-slice-aggregate-event : tie.Need-slice-aggregate-event
-slice-aggregate-event c = let h = handed-at (c .before .before .before) in simp length-take (omega (arith, h .few, h .eight))
+slice-aggregate-apply : tie.Need-slice-aggregate-apply
+slice-aggregate-apply c = let h = handed-at (c .before .before .before) in simp length-take (omega (arith, h .few, h .eight))
 
-event-requires : tie.Need-event-requires
-event-requires c κs = search needs
+apply-requires : tie.Need-apply-requires
+apply-requires c κs =
+    let s = c .before .before .before .before .before .before .before .before .before .before .before .before .before in
+    (s .pre .0 .ready, event-code (s .args .t .now) (s .args .rec .now) (s .args .register .now) (s .args .spot .accepted) (s .pre .0) _ (handed-at (c .before .before .before) .taken))
 
 add-t28 : tie.Need-add-t28
 add-t28 c = search needs
@@ -111,7 +113,7 @@ returns-3 : tie.Need-returns-3
 returns-3 c =
     let s = c .before .before .before .before .before .before .before .before .before .before .before .before .before .before .before .before in
     let h = handed-at (c .before .before .before .before .before .before) in (
-      subst (λ (b : List ℕ). Follows (s .args .t .now) b (s .args .register .now) (s .args .spot .accepted + 1)) (sym (c .before .before .event2 .ensures .1))
+      subst (λ (b : List ℕ). Follows (s .args .t .now) b (s .args .register .now) (s .args .spot .accepted + 1)) (sym (c .before .before .apply .ensures))
           (event-follows (s .args .t .now) (s .args .rec .now) (s .args .register .now) (s .args .spot .accepted) (s .pre .0) _ (h .taken)),
       record { inside = h .there; more = λ f. omega arith },
     )
@@ -131,8 +133,8 @@ step-spec =
     enum-told-2
     wide-requires
     array-share-prefix-objects
-    slice-aggregate-event
-    event-requires
+    slice-aggregate-apply
+    apply-requires
     add-t28
     mul-t29
     add-t30

@@ -11,9 +11,9 @@ use Rattle.replay.specs.Record.{tableIn}
 use Rattle.replay.specs.Calls.{stateAt}
 use Rattle.events.specs.Moves.{sunkState}
 use Rattle.events.proofs.Asked.{placed-at, counts-few, kind-of-in, sink-of-in}
-use Rattle.events.proofs.Walk.{can-move, walk-few, walk-size}
+use Rattle.events.proofs.Walk.{can-move, walk-few, register-in, register-kind}
 use Rattle.events.proofs.Steps.{walk-start}
-use Rattle.events.proofs.Sinks.{Sinking, sink-kind, sink-turn, sink-end}
+use Rattle.events.proofs.Sinks.{Sinking, sink-turn, sink-end}
 use Rattle.events.proofs.close.sink_objects.Statement.{statement}
 use Rattle.events.proofs.close.sink_objects.Tie as tie
 
@@ -26,7 +26,7 @@ abbrev μ-loop : tie.MeasureT-loop
 
 -- the kind read is the object's, and its sink is a known place
 read-is : (c : tie.After-get-word Inv-loop μ-loop) → c .get-word .result ≡ getD (stateAt (c .before .before .before .before .before .before .before .args .rec .now) .kinds) (c .before .before .before .before .before .loop .o) 0
-read-is c = c .get-word .ensures ∙ sink-kind _ _ _ _ _ _ _ _ (c .before .before .before .before .before .loop .o) (c .before .before .before .before .before .loop .inv .2) (c .before .before .before .if1 .taken)
+read-is c = let l = c .before .before .before .before .before .loop in c .get-word .ensures ∙ register-kind _ _ _ _ _ _ (l .inv .2 .walk) _ (l .inv .2 .same) (l .o) (c .before .before .before .if1 .taken)
 
 sink-in : (c : tie.After-sink Inv-loop μ-loop) → c .sink .result < c .before .before .before .before .before .before .before .before .args .lay .places
 sink-in c = rw (c .sink .ensures, read-is (c .before)) (sink-of-in _ _ _ (c .before .before .before .before .before .before .before .before .pre .0) (c .before .before .before .before .before .before .before .before .pre .1) (c .before .before .before .before .before .before .loop .o) (c .before .before .before .before .if1 .taken))
@@ -38,10 +38,10 @@ loop-holds c =
     (omega arith, refl, record { state = stateAt (s .args .rec .now); walk = walk-start _ _ _ (s .pre .0) (s .pre .1); same = refl; left = ap (λ (n : ℕ). sunkState (netIn (s .args .t .now)) (stateAt (s .args .rec .now)) (upto n 0)) z })
 
 add-get-word : tie.Need-add-get-word Inv-loop μ-loop
-add-get-word c = let l = c .before .before .before .before .loop in omega (arith, walk-size _ _ _ _ _ _ (l .inv .2 .walk), walk-few _ _ _ _ _ _ (l .inv .2 .walk), l .inv .2 .walk .placed .positions-at, l .inv .2 .walk .placed .counts-at, l .inv .2 .walk .placed .jumps-at, c .before .before .if1 .taken)
+add-get-word c = let l = c .before .before .before .before .loop in omega (arith, register-in _ _ _ _ _ _ (l .inv .2 .walk) (l .o) (c .before .before .if1 .taken), walk-few _ _ _ _ _ _ (l .inv .2 .walk))
 
 get-word-requires : tie.Need-get-word-requires Inv-loop μ-loop
-get-word-requires c κs = let l = c .before .before .before .before .loop in omega (arith, walk-size _ _ _ _ _ _ (l .inv .2 .walk), l .inv .2 .walk .placed .positions-at, l .inv .2 .walk .placed .counts-at, l .inv .2 .walk .placed .jumps-at, c .before .before .if1 .taken)
+get-word-requires c κs = let l = c .before .before .before .before .loop in register-in _ _ _ _ _ _ (l .inv .2 .walk) (l .o) (c .before .before .if1 .taken)
 
 cast-k : tie.Need-cast-k Inv-loop μ-loop
 cast-k c = search needs

@@ -1,7 +1,7 @@
 -- `step_objects` meets its contract: the record's numbers are those of a state from which the objects left lead to the state sought. Assumes nothing.
 use borrow.Author.Needs.{needs}
-use Prim.Native.Nat.{_+_, _≤_, _-_}
-use mathlib.Core.Path.{_≡_, refl}
+use Prim.Native.Nat.{ℕ, _+_, _≤_, _<_, _-_}
+use mathlib.Core.Path.{_≡_, refl, ap, _∙_}
 use native.Mathlib.Omega.{arith}
 use lib.ListN.{length, getD, drop}
 use Rattle.words.specs.Words.{wordsOf}
@@ -9,71 +9,94 @@ use Rattle.net.specs.Held.{netIn}
 use Rattle.replay.specs.Record.{tableIn}
 use Rattle.replay.specs.Calls.{stateAt}
 use Rattle.events.specs.Moves.{movedState}
-use Rattle.events.proofs.Asked.{few-objects, object-in, kept-is, kept-in, kept-takes, inp-in, out-in, own-in, placed-at}
-use Rattle.events.proofs.Walk.{can-move}
+use Rattle.events.proofs.Asked.{few-objects, object-in, own-kind-in, own-kind-taken, inp-in, out-in, own-in, placed-at}
+use Rattle.events.proofs.Walk.{can-move, walk-few, register-in, register-kind}
 use Rattle.events.proofs.Steps.{Stepping, walk-start, step-turn, step-end}
 use Rattle.events.proofs.event.step_objects.Statement.{statement}
 use Rattle.events.proofs.event.step_objects.Tie as tie
 
 abbrev Inv-loop : tie.InvT-loop
-Inv-loop rec₀ t lay act objs kinds done₀ rec done =
+Inv-loop rec₀ t lay act objs done₀ rec done =
     (done ≤ length objs) × (length rec ≡ length rec₀)
     × Stepping (netIn t) (tableIn rec₀) lay (8001025 + done) act (stateAt rec₀ .kinds) (drop done objs) (movedState (netIn t) (stateAt rec₀) act objs) (wordsOf rec)
 
 abbrev μ-loop : tie.MeasureT-loop
-μ-loop rec₀ t lay act objs kinds done₀ rec done = length objs - done
+μ-loop rec₀ t lay act objs done₀ rec done = length objs - done
+
+-- the object is in the register, and the kind read there is its own
+known-at : (c : tie.After-wide Inv-loop μ-loop) → c .wide .result < c .before .before .before .before .before .before .args .lay .objects
+known-at c = rw (c .wide .ensures) (object-in _ _ _ _ _ (c .before .before .before .before .before .before .pre .known) (c .before .before .before .loop .done) (c .before .before .loop-test .taken))
+
+kind-at : (c : tie.After-wide2 Inv-loop μ-loop) → c .wide2 .result ≡ getD (stateAt (c .before .before .before .before .before .before .before .before .before .before .args .rec .now) .kinds) (getD (c .before .before .before .before .before .before .before .before .before .before .args .objs .now) (c .before .before .before .before .before .before .before .loop .done) 0) 0
+kind-at c =
+    let l = c .before .before .before .before .before .before .before .loop in let s = c .before .before .before .before .before .before .before .before .before .before in
+    c .wide2 .ensures ∙ c .before .get-word .ensures ∙ ap (λ (o : ℕ). getD (wordsOf (l .rec)) (s .args .lay .register + o) 0) (c .before .before .before .before .wide .ensures)
+    ∙ register-kind _ _ _ _ _ _ (l .inv .2 .walk) _ (l .inv .2 .same) (getD (s .args .objs .now) (l .done) 0) (object-in _ _ _ _ _ (s .pre .known) (l .done) (c .before .before .before .before .before .before .loop-test .taken))
+
+-- its places are known
+inp-at : (c : tie.After-input Inv-loop μ-loop) → c .input .result < c .before .before .before .before .before .before .before .before .before .before .before .args .lay .places
+inp-at c = rw (c .input .ensures, kind-at (c .before)) (inp-in _ _ _ _ _ (c .before .before .before .before .before .before .before .before .before .before .before .pre) (c .before .before .before .before .before .before .before .before .loop .done) (c .before .before .before .before .before .before .before .loop-test .taken))
+
+out-at : (c : tie.After-output Inv-loop μ-loop) → c .output .result < c .before .before .before .before .before .before .before .before .before .before .before .before .args .lay .places
+out-at c = rw (c .output .ensures, kind-at (c .before .before)) (out-in _ _ _ _ _ (c .before .before .before .before .before .before .before .before .before .before .before .before .pre) (c .before .before .before .before .before .before .before .before .before .loop .done) (c .before .before .before .before .before .before .before .before .loop-test .taken))
 
 loop-holds : tie.Need-loop-holds Inv-loop μ-loop
 loop-holds c = let s = c .before .before in (omega arith, refl, record { state = stateAt (s .args .rec .now); walk = walk-start _ _ _ (s .pre .known .counted .ready) (s .pre .known .counted .lay); same = refl; left = refl })
 
-mul-k : tie.Need-mul-k Inv-loop μ-loop
-mul-k c = search needs
+mul-wide : tie.Need-mul-wide Inv-loop μ-loop
+mul-wide c = search needs
 
-element-copy-out-k : tie.Need-element-copy-out-k Inv-loop μ-loop
-element-copy-out-k c = let s = c .before .before .before .before in omega (arith, few-objects _ _ _ _ _ (s .pre .known .counted), c .loop-test .taken)
+shared-slice-read-wide : tie.Need-shared-slice-read-wide Inv-loop μ-loop
+shared-slice-read-wide c = search needs
+
+wide-requires : tie.Need-wide-requires Inv-loop μ-loop
+wide-requires c κs = search needs
+
+add-get-word : tie.Need-add-get-word Inv-loop μ-loop
+add-get-word c = let l = c .before .before .before .before .before .loop in omega (arith, register-in _ _ _ _ _ _ (l .inv .2 .walk) (c .before .before .wide .result) (known-at (c .before .before)), walk-few _ _ _ _ _ _ (l .inv .2 .walk))
+
+get-word-requires : tie.Need-get-word-requires Inv-loop μ-loop
+get-word-requires c κs = register-in _ _ _ _ _ _ (c .before .before .before .before .before .loop .inv .2 .walk) (c .before .before .wide .result) (known-at (c .before .before))
+
+wide-requires-2 : tie.Need-wide-requires-2 Inv-loop μ-loop
+wide-requires-2 c κs = search needs
 
 input-requires : tie.Need-input-requires Inv-loop μ-loop
-input-requires c κs = let s = c .before .before .before .before .before in (s .pre .known .counted .ready .held, (s .pre .known .counted .act-in, kept-in _ _ _ _ _ _ (s .pre) (c .before .before .loop .done) (c .before .loop-test .taken), kept-takes _ _ _ _ _ _ (s .pre) (c .before .before .loop .done) (c .before .loop-test .taken)))
+input-requires c κs = let s = c .before .before .before .before .before .before .before .before .before .before in
+    (s .pre .known .counted .ready .held, (s .pre .known .counted .act-in, rw (kind-at c) (own-kind-in _ _ _ _ _ (s .pre) (c .before .before .before .before .before .before .before .loop .done) (c .before .before .before .before .before .before .loop-test .taken)), rw (kind-at c) (own-kind-taken _ _ _ _ _ (s .pre) (c .before .before .before .before .before .before .before .loop .done) (c .before .before .before .before .before .before .loop-test .taken))))
 
 output-requires : tie.Need-output-requires Inv-loop μ-loop
-output-requires c κs = let s = c .before .before .before .before .before .before in (s .pre .known .counted .ready .held, (s .pre .known .counted .act-in, kept-in _ _ _ _ _ _ (s .pre) (c .before .before .before .loop .done) (c .before .before .loop-test .taken), kept-takes _ _ _ _ _ _ (s .pre) (c .before .before .before .loop .done) (c .before .before .loop-test .taken)))
+output-requires c κs = let s = c .before .before .before .before .before .before .before .before .before .before .before in
+    (s .pre .known .counted .ready .held, (s .pre .known .counted .act-in, rw (kind-at (c .before)) (own-kind-in _ _ _ _ _ (s .pre) (c .before .before .before .before .before .before .before .before .loop .done) (c .before .before .before .before .before .before .before .loop-test .taken)), rw (kind-at (c .before)) (own-kind-taken _ _ _ _ _ (s .pre) (c .before .before .before .before .before .before .before .before .loop .done) (c .before .before .before .before .before .before .before .loop-test .taken))))
 
 cast-out : tie.Need-cast-out Inv-loop μ-loop
-cast-out c = let s = c .before .before .before .before .before .before .before in omega (arith, c .output .ensures, out-in _ _ _ _ _ _ (s .pre) (c .before .before .before .before .loop .done) (c .before .before .before .loop-test .taken), placed-at _ _ _ (s .pre .known .counted .ready) (s .pre .known .counted .lay) .places-few)
+cast-out c = let s = c .before .before .before .before .before .before .before .before .before .before .before .before in omega (arith, out-at c, placed-at _ _ _ (s .pre .known .counted .ready) (s .pre .known .counted .lay) .places-few)
 
 mul-move-object : tie.Need-mul-move-object Inv-loop μ-loop
-mul-move-object c = let s = c .before .before .before .before .before .before .before .before in omega (arith, own-in _ _ _ _ _ _ (s .pre) (c .before .before .before .before .before .loop .done) (c .before .before .before .before .loop-test .taken))
+mul-move-object c = omega (arith, own-in _ _ _ _ _ (c .before .before .before .before .before .before .before .before .before .before .before .before .before .pre) (c .before .before .before .before .before .before .before .before .before .before .loop .done) (c .before .before .before .before .before .before .before .before .before .loop-test .taken))
 
 add-move-object : tie.Need-add-move-object Inv-loop μ-loop
-add-move-object c = let s = c .before .before .before .before .before .before .before .before in omega (arith, own-in _ _ _ _ _ _ (s .pre) (c .before .before .before .before .before .loop .done) (c .before .before .before .before .loop-test .taken))
+add-move-object c = omega (arith, own-in _ _ _ _ _ (c .before .before .before .before .before .before .before .before .before .before .before .before .before .pre) (c .before .before .before .before .before .before .before .before .before .before .loop .done) (c .before .before .before .before .before .before .before .before .before .loop-test .taken))
 
 add-move-object-2 : tie.Need-add-move-object-2 Inv-loop μ-loop
-add-move-object-2 c = let s = c .before .before .before .before .before .before .before .before .before in omega (arith, own-in _ _ _ _ _ _ (s .pre) (c .before .before .before .before .before .before .loop .done) (c .before .before .before .before .before .loop-test .taken))
-
-mul-move-object-2 : tie.Need-mul-move-object-2 Inv-loop μ-loop
-mul-move-object-2 c = search needs
-
-shared-slice-read-move-object : tie.Need-shared-slice-read-move-object Inv-loop μ-loop
-shared-slice-read-move-object c = search needs
-
-cast-move-object : tie.Need-cast-move-object Inv-loop μ-loop
-cast-move-object c = omega (arith, c .shared-slice-known2 .given (c .before .before .before .before .before .before .before .loop .done))
+add-move-object-2 c = omega (arith, own-in _ _ _ _ _ (c .before .before .before .before .before .before .before .before .before .before .before .before .before .before .pre) (c .before .before .before .before .before .before .before .before .before .before .before .loop .done) (c .before .before .before .before .before .before .before .before .before .before .loop-test .taken))
 
 move-object-requires : tie.Need-move-object-requires Inv-loop μ-loop
-move-object-requires c κs = let s = c .before .before .before .before .before .before .before .before .before .before in let l = c .before .before .before .before .before .before .before .loop in let h = c .before .before .before .before .before .before .loop-test .taken in
-    rw (c .before .before .before .before .input .ensures) (can-move _ _ _ (8001025 + l .done) _ _ (l .inv .2 .walk) _ _ _ (omega arith) (own-in _ _ _ _ _ _ (s .pre) (l .done) h .0) (object-in _ _ _ _ _ (s .pre .known) (l .done) h) (inp-in _ _ _ _ _ _ (s .pre) (l .done) h) (omega (arith, few-objects _ _ _ _ _ (s .pre .known .counted))))
+move-object-requires c κs = let s = c .before .before .before .before .before .before .before .before .before .before .before .before .before .before in let l = c .before .before .before .before .before .before .before .before .before .before .before .loop in
+    can-move _ _ _ (8001025 + l .done) _ _ (l .inv .2 .walk) _ _ _ (omega arith) (own-in _ _ _ _ _ (s .pre) (l .done) (c .before .before .before .before .before .before .before .before .before .before .loop-test .taken) .0) (known-at (c .before .before .before .before .before .before .before .before)) (inp-at (c .before .before .before)) (omega (arith, few-objects _ _ _ _ _ (s .pre .known .counted)))
 
 add-done : tie.Need-add-done Inv-loop μ-loop
-add-done c = search needs
+add-done c = omega (arith, c .before .before .before .before .before .before .before .before .before .before .before .before .before .loop-test .taken, few-objects _ _ _ _ _ (c .before .before .before .before .before .before .before .before .before .before .before .before .before .before .before .before .before .pre .known .counted))
 
 loop-less : tie.Need-loop-less Inv-loop μ-loop
 loop-less c = search needs
 
 loop-again : tie.Need-loop-again Inv-loop μ-loop
-loop-again c = let s = c .before .before .before .before .before .before .before .before .before .before .before .before .before in let l = c .before .before .before .before .before .before .before .before .before .before .loop in let h = c .before .before .before .before .before .before .before .before .before .loop-test .taken in (
+loop-again c = let s = c .before .before .before .before .before .before .before .before .before .before .before .before .before .before .before .before .before in let l = c .before .before .before .before .before .before .before .before .before .before .before .before .before .before .loop in let h = c .before .before .before .before .before .before .before .before .before .before .before .before .before .loop-test .taken in let i = c .before .before .before .before .before .before in let o = c .before .before .before .before .before in (
   omega arith,
   omega arith,
-  rw (c .before .before .move-object .ensures, c .before .before .before .before .before .before .before .input .ensures, c .before .before .before .before .before .before .output .ensures) (step-turn _ _ _ (8001025 + l .done) _ _ _ _ _ (l .done) (l .inv .2) (8001025 + (l .done + 1)) (getD (s .args .kinds .now) (l .done) 0) h (kept-is _ _ _ _ _ _ (s .pre) (l .done) h) (s .pre .known .counted .act-in) (object-in _ _ _ _ _ (s .pre .known) (l .done) h) (inp-in _ _ _ _ _ _ (s .pre) (l .done) h) (out-in _ _ _ _ _ _ (s .pre) (l .done) h) (omega (arith, few-objects _ _ _ _ _ (s .pre .known .counted))) (omega arith)),
+  rw (c .before .before .move-object .ensures, i .input .ensures, o .output .ensures, c .before .before .before .before .before .before .before .before .before .before .before .wide .ensures)
+      (step-turn _ _ _ (8001025 + l .done) _ _ _ _ _ (l .done) (l .inv .2) (8001025 + (l .done + 1)) (c .before .before .before .before .before .before .before .wide2 .result) h (kind-at (c .before .before .before .before .before .before .before)) (s .pre .known .counted .act-in) (object-in _ _ _ _ _ (s .pre .known) (l .done) h) (rw (i .input .ensures) at (inp-at i)) (rw (o .output .ensures) at (out-at o)) (omega (arith, few-objects _ _ _ _ _ (s .pre .known .counted))) (omega arith)),
 )
 
 same-length : tie.Need-same-length Inv-loop μ-loop
@@ -89,17 +112,18 @@ step-objects-spec =
     Inv-loop
     μ-loop
     loop-holds
-    mul-k
-    element-copy-out-k
+    mul-wide
+    shared-slice-read-wide
+    wide-requires
+    add-get-word
+    get-word-requires
+    wide-requires-2
     input-requires
     output-requires
     cast-out
     mul-move-object
     add-move-object
     add-move-object-2
-    mul-move-object-2
-    shared-slice-read-move-object
-    cast-move-object
     move-object-requires
     add-done
     loop-less

@@ -1,46 +1,54 @@
 -- Each return by the tests passed on the way. Assumes nothing.
-use Prim.Native.Nat.{ℕ, _<_}
-use mathlib.Core.Path.{_≡_, sym, _∙_}
+use Prim.Native.Nat.{ℕ}
+use mathlib.Core.Bool.{Bool}
+use mathlib.Core.Path.{_≡_, ap, sym, _∙_}
+use mathlib.Core.List.{List, [], _∷_}
 use native.Mathlib.Omega.{arith}
-use lib.ListN.{length, getD, take}
+use lib.ListN.{replicate}
+use lib.Seq.{sets}
+use Rattle.words.specs.Lists.{pick, twice}
+use Rattle.words.specs.Refusals.{first}
 use Rattle.words.specs.Words.{wordsOf}
+use Rattle.words.proofs.Refusals.{first-then, first-stays}
 use Rattle.net.specs.Held.{netIn}
 use Rattle.replay.specs.Plain.{kindsOf}
+use Rattle.tracefile.specs.Parts.{kindTests, objectTests}
 use Rattle.tracefile.specs.Trace.{objectsAt}
-use Rattle.tracefile.proofs.ObjectLaws.{length-objects, kinds-length, kinds-front, kinds-below}
+use Rattle.tracefile.proofs.ObjectLaws.{length-objects, kinds-length, kinds-front}
 use borrow.Author.Needs.{needs}
 use Rattle.tracefile.proofs.objects.refuse_objects.Statement.{statement}
 use Rattle.tracefile.proofs.objects.refuse_objects.Tie as tie
 
--- the kinds that were stored
-length8 : (c : tie.Else1) → length (c .before .take-objects .last .1 .1 .1 .1 .0) ≡ 8
-length8 c = let s = c .before .before .before .before .before .before in
-    kinds-length (netIn (s .args .t .now)) (wordsOf (s .args .register .now)) (s .pre .1 .0) (objectsAt (s .args .window .now) 8 (s .args .n)) (s .args .n) (length-objects (s .args .window .now) 8 (s .args .n)) (s .pre .1 .1 .0) (c .before .take-objects .last .1 .1 .1 .1 .0) (c .before .take-objects .ensures .1 .1 (c .if1 .left)) (sym (c .before .take-objects .ensures .0) ∙ c .if1 .left)
+-- the objects' kinds are stored
+stored : (c : tie.Else1) → c .before .take-kinds .last .1 .1 .1 .1 .1 .0 ≡ sets (replicate 8 0) 0 (kindsOf (wordsOf (c .before .before .before .before .before .args .register .now)) (objectsAt (c .before .before .before .before .before .args .window .now) 8 (c .before .before .before .before .before .args .n)))
+stored c = c .before .take-kinds .ensures .1 (c .if1 .left)
 
-front : (c : tie.Else1) → take (c .before .before .before .before .before .before .args .n) (c .before .take-objects .last .1 .1 .1 .1 .0) ≡ kindsOf (wordsOf (c .before .before .before .before .before .before .args .register .now)) (objectsAt (c .before .before .before .before .before .before .args .window .now) 8 (c .before .before .before .before .before .before .args .n))
-front c = let s = c .before .before .before .before .before .before in
-    kinds-front (netIn (s .args .t .now)) (wordsOf (s .args .register .now)) (s .pre .1 .0) (objectsAt (s .args .window .now) 8 (s .args .n)) (s .args .n) (length-objects (s .args .window .now) 8 (s .args .n)) (s .pre .1 .1 .0) (c .before .take-objects .last .1 .1 .1 .1 .0) (c .before .take-objects .ensures .1 .1 (c .if1 .left)) (sym (c .before .take-objects .ensures .0) ∙ c .if1 .left)
+-- neither 25 nor 26 applies: 27 decides
+last : (c : tie.After-repeated-kind) → pick {A = ℕ} (c .repeated-kind .result) 27 0 ≡ first (objectTests (netIn (c .before .before .before .before .before .before .before .args .t .now)) (wordsOf (c .before .before .before .before .before .before .before .args .register .now)) (c .before .before .before .before .before .before .before .args .act) (objectsAt (c .before .before .before .before .before .before .before .args .window .now) 8 (c .before .before .before .before .before .before .before .args .n)))
+last c =
+    let a = c .before .before .before .before .before .before .before .args in
+    let ks : List ℕ = wordsOf (a .register .now) in
+    let os : List ℕ = objectsAt (a .window .now) 8 (a .n) in
+    ap (λ (b : Bool). pick {A = ℕ} b 27 0) (c .repeated-kind .ensures ∙ ap twice (kinds-front ks os (a .n) (length-objects (a .window .now) 8 (a .n)) (c .before .before .before .before .before .before .before .pre .1 .1 .0) _ (stored (c .before .before))))
+    ∙ sym (first-then (kindTests (netIn (a .t .now)) ks (a .act) os) ((twice (kindsOf ks os), 27) ∷ []) (sym (c .before .before .before .take-kinds .ensures .0) ∙ c .before .before .if1 .left) (omega arith))
 
-below : (c : tie.Else1) (i : ℕ) → i < c .before .before .before .before .before .before .args .n → getD (c .before .take-objects .last .1 .1 .1 .1 .0) i 0 < netIn (c .before .before .before .before .before .before .args .t .now) .kinds
-below c = let s = c .before .before .before .before .before .before in
-    kinds-below (netIn (s .args .t .now)) (wordsOf (s .args .register .now)) (s .pre .1 .0) (objectsAt (s .args .window .now) 8 (s .args .n)) (s .args .n) (length-objects (s .args .window .now) 8 (s .args .n)) (s .pre .1 .1 .0) (c .before .take-objects .last .1 .1 .1 .1 .0) (c .before .take-objects .ensures .1 .1 (c .if1 .left)) (sym (c .before .take-objects .ensures .0) ∙ c .if1 .left)
-
-take-objects-requires : tie.Need-take-objects-requires
-take-objects-requires c κs = search needs
+take-kinds-requires : tie.Need-take-kinds-requires
+take-kinds-requires c κs = search needs
 
 returns : tie.Need-returns
-returns c = (rw (← c .before .take-objects .ensures .0, c .if1 .taken), λ f. absurd (omega arith))
+returns c = let a = c .before .before .before .before .before .args in
+    c .before .take-kinds .ensures .0 ∙ sym (first-stays (kindTests (netIn (a .t .now)) (wordsOf (a .register .now)) (a .act) (objectsAt (a .window .now) 8 (a .n))) ((twice (kindsOf (wordsOf (a .register .now)) (objectsAt (a .window .now) 8 (a .n))), 27) ∷ []) (λ z. c .if1 .taken (c .before .take-kinds .ensures .0 ∙ z)))
 
-refuse-kinds-requires : tie.Need-refuse-kinds-requires
-refuse-kinds-requires c κs = let s = c .before .before .before .before .before .before .before in
-    (s .pre .0, ((s .pre .1 .1 .0, length8 (c .before), s .pre .1 .1 .2), below (c .before)))
+repeated-kind-requires : tie.Need-repeated-kind-requires
+repeated-kind-requires c κs = let s = c .before .before .before .before .before .before in
+    (s .pre .1 .1 .0, kinds-length (wordsOf (s .args .register .now)) (objectsAt (s .args .window .now) 8 (s .args .n)) (s .args .n) (length-objects (s .args .window .now) 8 (s .args .n)) (s .pre .1 .1 .0) _ (stored (c .before)))
 
 returns-2 : tie.Need-returns-2
-returns-2 c = (
-  rw (← c .before .before .before .take-objects .ensures .0, c .before .before .if1 .left, ← front (c .before .before)) (c .refuse-kinds .ensures),
-  λ f. c .before .before .before .take-objects .ensures .1 .0 (c .before .before .if1 .left),
-)
+returns-2 c = rw (c .if2 .taken) at (last (c .before))
+
+returns-3 : tie.Need-returns-3
+returns-3 c = rw (c .if2 .left) at (last (c .before))
 
 pub refuse-objects-spec : {M : Type 1} → statement M
 refuse-objects-spec =
-    tie.close (tie.spec take-objects-requires returns refuse-kinds-requires returns-2)
+    tie.close (tie.spec take-kinds-requires returns repeated-kind-requires returns-2 returns-3)

@@ -1,0 +1,23 @@
+-- Each return by the test of the index. Assumes nothing.
+use borrow.Author.Needs.{needs}
+use borrow.Author.Tests.{le-leb, lt-leb}
+use Rattle.tracefile.proofs.objects.object_at.Statement.{statement}
+use Rattle.tracefile.proofs.objects.object_at.Tie as tie
+
+returns : tie.Need-returns
+returns c = rw (le-leb _ _ (c .if1 .taken))
+
+mul-word-at : tie.Need-mul-word-at
+mul-word-at c = search needs
+
+add-word-at : tie.Need-add-word-at
+add-word-at c = search needs
+
+word-at-requires : tie.Need-word-at-requires
+word-at-requires c κs = search needs
+
+returns-2 : tie.Need-returns-2
+returns-2 c = rw (lt-leb _ _ (c .before .if1 .left)) (c .word-at .ensures)
+
+pub object-at-spec : {M : Type 1} → statement M
+object-at-spec = tie.close (tie.spec returns mul-word-at add-word-at word-at-requires returns-2)

@@ -1,0 +1,47 @@
+-- Eight objects, each read by itself, are the objects over eight zeros. Assumes nothing.
+use mathlib.Core.Path.{_∙_}
+use borrow.Author.Needs.{needs}
+use Rattle.tracefile.proofs.ObjectLaws.{eight-slots}
+use Rattle.tracefile.proofs.objects.read_objects.Statement.{statement}
+use Rattle.tracefile.proofs.objects.read_objects.Tie as tie
+
+object-at-requires : tie.Need-object-at-requires
+object-at-requires c κs = search needs
+
+object-at-requires-2 : tie.Need-object-at-requires-2
+object-at-requires-2 c κs = search needs
+
+object-at-requires-3 : tie.Need-object-at-requires-3
+object-at-requires-3 c κs = search needs
+
+object-at-requires-4 : tie.Need-object-at-requires-4
+object-at-requires-4 c κs = search needs
+
+object-at-requires-5 : tie.Need-object-at-requires-5
+object-at-requires-5 c κs = search needs
+
+object-at-requires-6 : tie.Need-object-at-requires-6
+object-at-requires-6 c κs = search needs
+
+object-at-requires-7 : tie.Need-object-at-requires-7
+object-at-requires-7 c κs = search needs
+
+object-at-requires-8 : tie.Need-object-at-requires-8
+object-at-requires-8 c κs = search needs
+
+returns : tie.Need-returns
+returns c = (cc) ∙ eight-slots (c .before .before .before .before .before .before .before .before .before .args .window .now) (c .before .before .before .before .before .before .before .before .before .args .n) (c .before .before .before .before .before .before .before .before .before .pre .0)
+
+pub read-objects-spec : {M : Type 1} → statement M
+read-objects-spec =
+    tie.close
+    (tie.spec
+    object-at-requires
+    object-at-requires-2
+    object-at-requires-3
+    object-at-requires-4
+    object-at-requires-5
+    object-at-requires-6
+    object-at-requires-7
+    object-at-requires-8
+    returns)
