@@ -8,8 +8,8 @@ use lib.ListN.{length, drop, length-append, length-drop}
 use lib.Dec.{eqb}
 use Rattle.words.specs.Lists.{pick}
 use Rattle.replay.specs.Calls.{over}
-use Rattle.report.specs.Answer.{sizeOf, lineCode, Writes}
-use Rattle.report.specs.declared.LineAnswer.{LineAnswer}
+use Rattle.lines.specs.Answer.{sizeOf, lineCode, Writes}
+use Rattle.lines.specs.declared.LineAnswer.{LineAnswer}
 
 pub line-fits : (tests : List (Bool × ℕ)) (line lent : List ℕ) (r : LineAnswer) (left : List ℕ) → Writes tests line lent r left → length left ≡ length lent → sizeOf r ≤ length lent
 line-fits tests line lent r left W e = go (eqb (lineCode tests line lent) 0) (W .size) (ap length (sym (W .bytes)) ∙ e)

@@ -10,7 +10,6 @@ use crate::input::read_file;
 use crate::input::read_some;
 use crate::input::skip;
 use crate::output::refuse;
-use net::LoadAnswer;
 use starting::StartAnswer;
 use tracefile::Contents;
 use tracefile::open::opening_refusal;
@@ -20,29 +19,10 @@ ghost use Prim.Native.Nat.{_%_, _<_};
 ghost use lib.ListN.{length};
 ghost use Rattle.net.specs.Held.{Held};
 ghost use Rattle.words.specs.Words.{wordsOf};
-ghost use Rattle.net.specs.Answer.{codeOf};
 ghost use Rattle.net.specs.Table.{netOf};
 ghost use Rattle.replay.specs.Plain.{registerCode};
 ghost use Rattle.starting.specs.Startable.{Startable};
 ghost use Rattle.conform.specs.Trail.{Tabled};
-
-// The number of loading's answer.
-fn number(a: LoadAnswer) -> u32
-    ensures { λ r. ⌜ r ≡ codeOf a ⌝ }
-{
-    match a {
-        LoadAnswer::Taken => 0,
-        LoadAnswer::Length => 1,
-        LoadAnswer::Layout => 2,
-        LoadAnswer::Size => 3,
-        LoadAnswer::PlaceKind => 4,
-        LoadAnswer::Ends => 5,
-        LoadAnswer::Arcs => 6,
-        LoadAnswer::ArcPlaces => 7,
-        LoadAnswer::TwoOfKind => 8,
-        LoadAnswer::Unreached => 9,
-    }
-}
 
 // Room for the longest record.
 fn record_buffer() -> [u8; 29844]
@@ -123,7 +103,7 @@ fn read_trail(table: &[u8], t: &[u32; 1684])
 // The table file's bytes: a table of more than 4,704 bytes is refused by one byte more.
 fn run(table: &[u8]) {
     let mut t = net_buffer();
-    let code = number(loader::load(table, &mut t));
+    let code = net::number(loader::load(table, &mut t));
     if code != 0 {
         refuse(code, 0);
         return;

@@ -1,12 +1,12 @@
 // The report (the sheet), and the line of a refusal, on standard output.
 
-use report::LineAnswer;
+use lines::LineAnswer;
 use report::trail::NextJump;
 ghost use mathlib.Core.Path.{_≡_};
 ghost use Prim.Native.Nat.{_≤_};
 ghost use lib.ListN.{length};
 ghost use Rattle.replay.specs.Ready.{Ready};
-ghost use Rattle.report.specs.Answer.{sizeOf};
+ghost use Rattle.lines.specs.Answer.{sizeOf};
 
 // How many bytes a line has.
 fn size(a: LineAnswer) -> usize
@@ -23,7 +23,7 @@ fn size(a: LineAnswer) -> usize
 // The line of a refusal, with the events accepted before it.
 pub fn refuse(code: u32, events: u32) {
     let mut out = [0u8; 64];
-    let n = size(report::lines::refused_line(code, events, &mut out));
+    let n = size(lines::refused_line(code, events, &mut out));
     io::write_all(1, &out[..n]);
 }
 
