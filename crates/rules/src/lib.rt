@@ -1,5 +1,3 @@
-// The tests 4 to 9 of loading, on a table's bodies in words. Above `net`; only `loader` uses them.
+// The tests 4 to 7 of loading, on a table's bodies in words. Above `net`; only `loader` uses them.
 
 pub mod front;
-pub mod kinds;
-pub mod reach;

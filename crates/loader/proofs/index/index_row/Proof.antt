@@ -10,7 +10,7 @@ use Rattle.words.specs.Lists.{pairUp}
 use Rattle.net.specs.Held.{netIn, arcsIn, indexRow}
 use Rattle.loader.proofs.Indexed.{row-more, row-end}
 use Rattle.net.proofs.Stores.{left-at, cut-short}
-use Rattle.rules.proofs.RuledWords.{kind-in, arc-inp, arc-out}
+use Rattle.routes.proofs.RuledWords.{kind-in, arc-inp, arc-out}
 use Rattle.loader.proofs.index.index_row.Statement.{statement}
 use Rattle.loader.proofs.index.index_row.Tie as tie
 

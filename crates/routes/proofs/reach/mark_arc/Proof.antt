@@ -4,8 +4,8 @@ use Rattle.words.proofs.Lists.{clash}
 use Rattle.net.proofs.Marks.{set-again}
 use mathlib.Core.Path.{refl, sym}
 use borrow.Author.Needs.{needs}
-use Rattle.rules.proofs.reach.mark_arc.Statement.{statement}
-use Rattle.rules.proofs.reach.mark_arc.Tie as tie
+use Rattle.routes.proofs.reach.mark_arc.Statement.{statement}
+use Rattle.routes.proofs.reach.mark_arc.Tie as tie
 
 mul-if1 : tie.Need-mul-if1
 mul-if1 c = search needs

@@ -9,9 +9,9 @@ use borrow.Author.Needs.{needs}
 use Rattle.net.specs.Held.{netIn}
 use Rattle.net.specs.Ruled.{marksTo}
 use Rattle.net.proofs.Views.{kinds-is, source-at}
-use Rattle.rules.proofs.RuledWords.{end-words}
-use Rattle.rules.proofs.reach.mark_sources.Statement.{statement}
-use Rattle.rules.proofs.reach.mark_sources.Tie as tie
+use Rattle.routes.proofs.RuledWords.{end-words}
+use Rattle.routes.proofs.reach.mark_sources.Statement.{statement}
+use Rattle.routes.proofs.reach.mark_sources.Tie as tie
 
 abbrev Inv-loop : tie.InvT-loop
 Inv-loop w m₀ n k₀ m k = (k ≤ n) × (m ≡ marksTo (netIn w) k m₀)

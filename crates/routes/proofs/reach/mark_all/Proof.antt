@@ -8,8 +8,8 @@ use Rattle.words.specs.Lists.{pairUp}
 use Rattle.net.specs.Table.{passes}
 use Rattle.net.specs.Held.{arcsIn}
 use Rattle.net.proofs.Marks.{passes-turn, passes-end, passes-stay}
-use Rattle.rules.proofs.reach.mark_all.Statement.{statement}
-use Rattle.rules.proofs.reach.mark_all.Tie as tie
+use Rattle.routes.proofs.reach.mark_all.Statement.{statement}
+use Rattle.routes.proofs.reach.mark_all.Tie as tie
 
 abbrev Inv-loop : tie.InvT-loop
 Inv-loop w m₀ i₀ m i =

@@ -11,8 +11,8 @@ use Rattle.net.specs.Net.{Arc, kindsOf}
 use Rattle.net.specs.Held.{netIn, countsIn, arcsIn}
 use Rattle.net.proofs.Views.{counts-length, count-at}
 use Rattle.net.proofs.Search.{parts-turn, parts-found, parts-end, left-turn}
-use Rattle.rules.proofs.kinds.two_of_kind.Statement.{statement}
-use Rattle.rules.proofs.kinds.two_of_kind.Tie as tie
+use Rattle.routes.proofs.kinds.two_of_kind.Statement.{statement}
+use Rattle.routes.proofs.kinds.two_of_kind.Tie as tie
 
 abbrev Inv-loop : tie.InvT-loop
 Inv-loop w n from₀ a₀ from a =

@@ -13,10 +13,10 @@ use Rattle.net.specs.Table.{passes, marked}
 use Rattle.net.specs.Held.{netIn, arcsIn}
 use Rattle.net.specs.Ruled.{sourceMarks}
 use Rattle.net.proofs.Views.{kinds-is}
-use Rattle.rules.proofs.RuledWords.{end-words, sink-marked}
+use Rattle.routes.proofs.RuledWords.{end-words, sink-marked}
 use Rattle.net.proofs.Scan.{anyTo-turn, anyTo-found, anyTo-end}
-use Rattle.rules.proofs.reach.unreached.Statement.{statement}
-use Rattle.rules.proofs.reach.unreached.Tie as tie
+use Rattle.routes.proofs.reach.unreached.Statement.{statement}
+use Rattle.routes.proofs.reach.unreached.Tie as tie
 
 -- no path of arcs joins the sink of kind k to its source
 abbrev lost : List ℕ → ℕ → Bool

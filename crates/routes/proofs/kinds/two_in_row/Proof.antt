@@ -9,10 +9,10 @@ use borrow.Author.Needs.{needs}
 use Rattle.words.specs.Lists.{twice, pairUp}
 use Rattle.net.specs.Net.{kindsOf}
 use Rattle.net.specs.Held.{netIn, arcsIn}
-use Rattle.rules.proofs.RuledWords.{kind-in, arc-inp, row-length, row-at, row-in}
+use Rattle.routes.proofs.RuledWords.{kind-in, arc-inp, row-length, row-at, row-in}
 use Rattle.net.proofs.Search.{clashes, clash-turn, clash-found, clash-end, clash-twice}
-use Rattle.rules.proofs.kinds.two_in_row.Statement.{statement}
-use Rattle.rules.proofs.kinds.two_in_row.Tie as tie
+use Rattle.routes.proofs.kinds.two_in_row.Statement.{statement}
+use Rattle.routes.proofs.kinds.two_in_row.Tie as tie
 
 abbrev Inv-loop : tie.InvT-loop
 Inv-loop w from n seen₀ i₀ seen i =

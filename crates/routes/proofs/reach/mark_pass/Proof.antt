@@ -12,9 +12,9 @@ use Rattle.words.specs.Lists.{pairUp}
 use Rattle.net.specs.Table.{pass}
 use Rattle.net.specs.Held.{arcsIn}
 use Rattle.net.proofs.Views.{arcs-length, arc-at}
-use Rattle.rules.proofs.RuledWords.{arc-inp, arc-out}
-use Rattle.rules.proofs.reach.mark_pass.Statement.{statement}
-use Rattle.rules.proofs.reach.mark_pass.Tie as tie
+use Rattle.routes.proofs.RuledWords.{arc-inp, arc-out}
+use Rattle.routes.proofs.reach.mark_pass.Statement.{statement}
+use Rattle.routes.proofs.reach.mark_pass.Tie as tie
 
 abbrev Inv-loop : tie.InvT-loop
 Inv-loop w m₀ n more₀ i₀ m more i =
