@@ -1,5 +1,10 @@
 // The look-up words of a loaded net: each arc at its activity and kind.
 
+use net::COUNTS;
+use net::INDEX;
+use net::INPUTS;
+use net::OUTPUTS;
+use net::PLACES;
 use words::wide;
 ghost use mathlib.Core.Path.{_≡_};
 ghost use Prim.Native.Nat.{_+_, _≤_};
@@ -17,9 +22,9 @@ fn index_row(w: &[u32; 1684], from: usize, n: usize, t: &mut [u32; 1684], base: 
     let mut i = 0;
     while i < n {
         let j = from + i;
-        let p = w[148 + 2 * j];
-        let q = w[149 + 2 * j];
-        let k = wide(w[20 + wide(p)]);
+        let p = w[INPUTS + 2 * j];
+        let q = w[OUTPUTS + 2 * j];
+        let k = wide(w[PLACES + wide(p)]);
         t[base + k] = p + 1 + 256 * q;
         i += 1;
     }
@@ -34,8 +39,8 @@ pub fn index_arcs(w: &[u32; 1684], t: &mut [u32; 1684])
     let mut from = 0;
     let mut a = 0;
     while a < n {
-        let size = wide(w[84 + a]);
-        index_row(w, from, size, t, 1172 + 8 * a);
+        let size = wide(w[COUNTS + a]);
+        index_row(w, from, size, t, INDEX + 8 * a);
         from += size;
         a += 1;
     }

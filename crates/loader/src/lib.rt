@@ -8,7 +8,11 @@ use crate::index::index_arcs;
 use crate::refuse::refuse_arcs;
 use crate::refuse::refuse_front;
 use crate::shape::refuse_shape;
+use net::COUNTS;
+use net::INPUTS;
 use net::LoadAnswer;
+use net::PLACES;
+use net::SOURCES;
 use net::answer;
 ghost use mathlib.Core.Path.{_≡_};
 ghost use Rattle.words.specs.Refusals.{first};
@@ -34,9 +38,9 @@ fn copy_front(s: &[u8], w: &mut [u32; 1684])
         words::word_at(s, 20) / 4,
         words::word_at(s, 28) / 8,
     );
-    copy_body(s, 0, w, 4);
-    copy_body(s, 1, w, 20);
-    copy_body(s, 2, w, 84);
+    copy_body(s, 0, w, SOURCES);
+    copy_body(s, 1, w, PLACES);
+    copy_body(s, 2, w, COUNTS);
 }
 
 // The words w, to which none of 3 to 9 applies, and their look-up words.
@@ -59,7 +63,7 @@ fn load_bodies(s: &[u8], t: &mut [u32; 1684]) -> u32
     if front != 0 {
         return front;
     }
-    copy_body(s, 3, &mut w, 148);
+    copy_body(s, 3, &mut w, INPUTS);
     let arcs = refuse_arcs(&w);
     if arcs != 0 {
         return arcs;

@@ -7,6 +7,22 @@ ghost use Rattle.net.specs.Answer.{codeOf};
 
 pub mod look;
 
+// Where the parts of a net stand in its 1,684 words, as `specs/Held.antt` says. The source and the sink of a kind stand side by
+// side, and so do the two places of an arc; the last part has eight words an activity.
+pub const SOURCES: usize = 4;
+
+pub const SINKS: usize = 5;
+
+pub const PLACES: usize = 20;
+
+pub const COUNTS: usize = 84;
+
+pub const INPUTS: usize = 148;
+
+pub const OUTPUTS: usize = 149;
+
+pub const INDEX: usize = 1172;
+
 // The answer to loading a table. `codeOf` gives document 01's number.
 pub enum LoadAnswer {
     Taken,

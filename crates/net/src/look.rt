@@ -1,5 +1,10 @@
 // Looking up a loaded net, each in one step. What is said of the words is said of the net that they hold.
 
+use crate::COUNTS;
+use crate::INDEX;
+use crate::PLACES;
+use crate::SINKS;
+use crate::SOURCES;
 use words::wide;
 ghost use mathlib.Core.Path.{_≡_};
 ghost use mathlib.Core.Bool.{true};
@@ -35,7 +40,7 @@ pub fn source(t: &[u32; 1684], k: usize) -> usize
     requires { ⌜ k < netIn (now t) .kinds ⌝ }
     ensures { λ r. ⌜ r ≡ netIn (now (t .entry)) .source k ⌝ }
 {
-    wide(t[4 + 2 * k])
+    wide(t[SOURCES + 2 * k])
 }
 
 // The sink of kind k.
@@ -44,7 +49,7 @@ pub fn sink(t: &[u32; 1684], k: usize) -> usize
     requires { ⌜ k < netIn (now t) .kinds ⌝ }
     ensures { λ r. ⌜ r ≡ netIn (now (t .entry)) .sink k ⌝ }
 {
-    wide(t[5 + 2 * k])
+    wide(t[SINKS + 2 * k])
 }
 
 // The kind of place p.
@@ -53,7 +58,7 @@ pub fn kind_of(t: &[u32; 1684], p: usize) -> usize
     requires { ⌜ p < netIn (now t) .places ⌝ }
     ensures { λ r. ⌜ r ≡ netIn (now (t .entry)) .kindOf p ⌝ }
 {
-    wide(t[20 + p])
+    wide(t[PLACES + p])
 }
 
 // How many arcs activity a has.
@@ -62,7 +67,7 @@ pub fn arcs(t: &[u32; 1684], a: usize) -> usize
     requires { ⌜ a < netIn (now t) .acts ⌝ }
     ensures { λ r. ⌜ r ≡ length (netIn (now (t .entry)) .arcs a) ⌝ }
 {
-    wide(t[84 + a])
+    wide(t[COUNTS + a])
 }
 
 // Activity a takes objects of kind k.
@@ -71,7 +76,7 @@ pub fn takes_kind(t: &[u32; 1684], a: usize, k: usize) -> bool
     requires { ⌜ (a < netIn (now t) .acts) × (k < netIn (now t) .kinds) ⌝ }
     ensures { λ r. ⌜ r ≡ takes (netIn (now (t .entry))) a k ⌝ }
 {
-    t[1172 + 8 * a + k] != 0
+    t[INDEX + 8 * a + k] != 0
 }
 
 // The place from which activity a takes an object of kind k.
@@ -80,7 +85,7 @@ pub fn input(t: &[u32; 1684], a: usize, k: usize) -> usize
     requires { ⌜ (a < netIn (now t) .acts) × (k < netIn (now t) .kinds) × (takes (netIn (now t)) a k ≡ true) ⌝ }
     ensures { λ r. ⌜ r ≡ inputOf (netIn (now (t .entry))) a k ⌝ }
 {
-    wide(t[1172 + 8 * a + k]) % 256 - 1
+    wide(t[INDEX + 8 * a + k]) % 256 - 1
 }
 
 // The place on which activity a leaves an object of kind k.
@@ -89,5 +94,5 @@ pub fn output(t: &[u32; 1684], a: usize, k: usize) -> usize
     requires { ⌜ (a < netIn (now t) .acts) × (k < netIn (now t) .kinds) × (takes (netIn (now t)) a k ≡ true) ⌝ }
     ensures { λ r. ⌜ r ≡ outputOf (netIn (now (t .entry))) a k ⌝ }
 {
-    wide(t[1172 + 8 * a + k]) / 256
+    wide(t[INDEX + 8 * a + k]) / 256
 }

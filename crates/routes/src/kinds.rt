@@ -1,5 +1,8 @@
 // Test 8 on a table's bodies in words: two arcs of one activity of one kind.
 
+use net::COUNTS;
+use net::INPUTS;
+use net::PLACES;
 use words::wide;
 ghost use mathlib.Core.Path.{_≡_};
 ghost use Prim.Native.Nat.{ℕ, _+_, _≤_};
@@ -19,8 +22,8 @@ fn two_in_row(w: &[u32; 1684], from: usize, n: usize) -> bool
     let mut seen = [false; 8];
     let mut i = 0;
     while i < n {
-        let p = wide(w[148 + 2 * (from + i)]);
-        let k = wide(w[20 + p]);
+        let p = wide(w[INPUTS + 2 * (from + i)]);
+        let k = wide(w[PLACES + p]);
         if seen[k] {
             return true;
         }
@@ -39,7 +42,7 @@ pub fn two_of_kind(w: &[u32; 1684]) -> bool
     let mut from = 0;
     let mut a = 0;
     while a < n {
-        let size = wide(w[84 + a]);
+        let size = wide(w[COUNTS + a]);
         if two_in_row(w, from, size) {
             return true;
         }

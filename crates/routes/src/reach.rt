@@ -1,6 +1,10 @@
 // Test 9 on a table's bodies in words: a sink that no path of arcs joins to its source.
 // All kinds are marked at once, which is the same, since an arc joins places of one kind.
 
+use net::INPUTS;
+use net::OUTPUTS;
+use net::SINKS;
+use net::SOURCES;
 use words::wide;
 ghost use mathlib.Core.Path.{_≡_};
 ghost use mathlib.Core.Bool.{Bool, not, false};
@@ -39,8 +43,8 @@ fn mark_pass(w: &[u32; 1684], m: &mut [u32; 64]) -> bool
     let mut more = false;
     let mut i = 0;
     while i < n {
-        let p = wide(w[148 + 2 * i]);
-        let q = wide(w[149 + 2 * i]);
+        let p = wide(w[INPUTS + 2 * i]);
+        let q = wide(w[OUTPUTS + 2 * i]);
         more = mark_arc(m, p, q, more);
         i += 1;
     }
@@ -69,7 +73,7 @@ fn mark_sources(w: &[u32; 1684], m: &mut [u32; 64])
     let n = wide(w[0]);
     let mut k = 0;
     while k < n {
-        m[wide(w[4 + 2 * k])] = 1;
+        m[wide(w[SOURCES + 2 * k])] = 1;
         k += 1;
     }
 }
@@ -85,7 +89,7 @@ pub fn unreached(w: &[u32; 1684]) -> bool
     let n = wide(w[0]);
     let mut k = 0;
     while k < n {
-        if m[wide(w[5 + 2 * k])] != 1 {
+        if m[wide(w[SINKS + 2 * k])] != 1 {
             return true;
         }
         k += 1;

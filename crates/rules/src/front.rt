@@ -1,5 +1,11 @@
 // The tests 4 to 7 on a table's bodies in words.
 
+use net::COUNTS;
+use net::INPUTS;
+use net::OUTPUTS;
+use net::PLACES;
+use net::SINKS;
+use net::SOURCES;
 use words::wide;
 ghost use mathlib.Core.Path.{_≡_};
 ghost use Prim.Native.Nat.{ℕ, _≤_, _<_};
@@ -18,7 +24,7 @@ pub fn bad_place(w: &[u32; 1684]) -> bool
     let n = wide(w[1]);
     let mut i = 0;
     while i < n {
-        if kinds <= w[20 + i] {
+        if kinds <= w[PLACES + i] {
             return true;
         }
         i += 1;
@@ -39,10 +45,10 @@ fn bad_pair(w: &[u32; 1684], k: usize, s: usize, e: usize) -> bool
     if n <= e {
         return true;
     }
-    if wide(w[20 + s]) != k {
+    if wide(w[PLACES + s]) != k {
         return true;
     }
-    if wide(w[20 + e]) != k {
+    if wide(w[PLACES + e]) != k {
         return true;
     }
     s == e
@@ -56,7 +62,7 @@ pub fn bad_ends(w: &[u32; 1684]) -> bool
     let n = wide(w[0]);
     let mut k = 0;
     while k < n {
-        if bad_pair(w, k, wide(w[4 + 2 * k]), wide(w[5 + 2 * k])) {
+        if bad_pair(w, k, wide(w[SOURCES + 2 * k]), wide(w[SINKS + 2 * k])) {
             return true;
         }
         k += 1;
@@ -72,10 +78,10 @@ pub fn bad_counts(w: &[u32; 1684]) -> bool
     let n = wide(w[2]);
     let mut i = 0;
     while i < n {
-        if w[84 + i] == 0 {
+        if w[COUNTS + i] == 0 {
             return true;
         }
-        if 8 < w[84 + i] {
+        if 8 < w[COUNTS + i] {
             return true;
         }
         i += 1;
@@ -93,7 +99,7 @@ pub fn sum_counts(w: &[u32; 1684]) -> usize
     let mut sum = 0;
     let mut i = 0;
     while i < n {
-        sum += wide(w[84 + i]);
+        sum += wide(w[COUNTS + i]);
         i += 1;
     }
     sum
@@ -111,7 +117,7 @@ fn bad_arc(w: &[u32; 1684], p: usize, q: usize) -> bool
     if n <= q {
         return true;
     }
-    w[20 + p] != w[20 + q]
+    w[PLACES + p] != w[PLACES + q]
 }
 
 // 7: an arc with an unknown place, or with places of two kinds.
@@ -123,7 +129,7 @@ pub fn bad_arcs(w: &[u32; 1684]) -> bool
     let n = wide(w[3]);
     let mut i = 0;
     while i < n {
-        if bad_arc(w, wide(w[148 + 2 * i]), wide(w[149 + 2 * i])) {
+        if bad_arc(w, wide(w[INPUTS + 2 * i]), wide(w[OUTPUTS + 2 * i])) {
             return true;
         }
         i += 1;
