@@ -1,20 +1,20 @@
 // The functions of the marking client, for C: numbers and byte slices, the trail held in lent bytes, which are its record.
 // Above all other libraries. Any bytes are taken or refused, 41 to 47 before a call's own numbers and 61 last.
 
-use crate::answers::load_code;
-use crate::answers::pack;
-use crate::answers::resumed_code;
-use crate::answers::resumed_second;
-use crate::answers::written;
 use crate::calls::begin;
-use crate::calls::checked;
 use crate::calls::put_close;
 use crate::calls::put_event;
 use crate::calls::put_save;
-use crate::numbers::act_numbers;
-use crate::numbers::pair_numbers;
-use crate::numbers::place_numbers;
-use crate::numbers::trail_numbers;
+use answers::check::checked;
+use answers::load_code;
+use answers::numbers::act_numbers;
+use answers::numbers::pair_numbers;
+use answers::numbers::place_numbers;
+use answers::numbers::trail_numbers;
+use answers::pack;
+use answers::resumed_code;
+use answers::resumed_second;
+use answers::written;
 ghost use mathlib.Core.Path.{_≡_};
 ghost use mathlib.Core.List.{[]};
 ghost use lib.ListN.{length};
@@ -22,12 +22,11 @@ ghost use Rattle.events.specs.Answers.{askEvent, askClose};
 ghost use Rattle.counts.specs.Reads.{placeTests, actTests, pairTests};
 ghost use Rattle.checkpoint.specs.Take.{takeBytes};
 ghost use Rattle.report.specs.TrailLines.{trailLineAt, placeLineAt, actLineAt, jumpLineAt};
-ghost use Rattle.client.specs.Client.{loadAnswer, startAnswer, startLeaves, objectsIn, askAnswer, askLeaves, restoreAnswer, saveAnswer, saveLeaves, writeAnswer, writeLeaves, trailNumbers, placeNumbers, actNumbers, pairNumbers};
+ghost use Rattle.answers.specs.Objects.{objectsIn};
+ghost use Rattle.answers.specs.Numbers.{trailNumbers, placeNumbers, actNumbers, pairNumbers};
+ghost use Rattle.client.specs.Client.{loadAnswer, startAnswer, startLeaves, askAnswer, askLeaves, restoreAnswer, saveAnswer, saveLeaves, writeAnswer, writeLeaves};
 
-mod answers;
 mod calls;
-mod numbers;
-mod objects;
 
 // Loads a table, to see whether it is taken: 1 to 9.
 #[no_mangle]

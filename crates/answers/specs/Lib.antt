@@ -1,0 +1,4 @@
+pub mod Answers
+pub mod Checked
+pub mod Objects
+pub mod Numbers
