@@ -24,6 +24,18 @@ fn read_objects(events: &[u8], at: usize, n: usize, objects: &mut [u32])
     }
 }
 
+// The same: eight numbers where there are as many, which takes no loop.
+fn read_row(events: &[u8], at: usize, n: usize, objects: &mut [u32])
+    requires { ⌜ (n ≤ 8) × (at + n ≤ length (wordsOf (now events))) × (length (now objects) ≡ 8) ⌝ }
+    ensures { λ _. ⌜ take n (now (objects .exit)) ≡ take n (drop at (wordsOf (now (events .entry)))) ⌝ }
+{
+    if 8 <= events.len() / 4 - at {
+        read_objects(events, at, 8, objects);
+        return;
+    }
+    read_objects(events, at, n, objects);
+}
+
 // Puts the event of the row at number `at` to the trail, and gives its number. The eight are room for its objects.
 fn put_row(
     trail: &mut [u8],
@@ -37,7 +49,7 @@ fn put_row(
     requires { ⌜ (count ≤ 8) × (at + (2 + count) ≤ length (wordsOf (now events))) × (count ≡ getD (drop at (wordsOf (now events))) 1 0) × (length (now objects) ≡ 8) ⌝ }
     ensures { λ r. ⌜ (r ≡ askCode (now (trail .entry)) (rowAt (drop at (wordsOf (now (events .entry)))))) × (now (trail .exit) ≡ askBytes (now (trail .entry)) (rowAt (drop at (wordsOf (now (events .entry)))))) ⌝ }
 {
-    read_objects(events, at + 2, count, objects);
+    read_row(events, at + 2, count, objects);
     event_code(events::event::event(trail, t, get_word(events, at), &objects[..count]))
 }
 
