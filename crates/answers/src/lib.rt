@@ -11,7 +11,6 @@ ghost use Rattle.report.specs.Answer as lines;
 ghost use Rattle.answers.specs.Answers.{packed};
 
 pub mod check;
-pub mod numbers;
 pub mod objects;
 
 pub fn pack(code: u32, high: u32) -> u64

@@ -1,9 +1,9 @@
 -- The counts that were read, written. Assumes nothing.
 use Rattle.report.proofs.LineLaws.{same-line}
-use Rattle.answers.proofs.NumberLaws.{trail-read}
+use Rattle.numbers.proofs.NumberLaws.{trail-read}
 use borrow.Author.Needs.{needs}
-use Rattle.answers.proofs.numbers.trail_numbers.Statement.{statement}
-use Rattle.answers.proofs.numbers.trail_numbers.Tie as tie
+use Rattle.numbers.proofs.trail_numbers.Statement.{statement}
+use Rattle.numbers.proofs.trail_numbers.Tie as tie
 
 read-trail-requires : tie.Need-read-trail-requires
 read-trail-requires c κs = search needs

@@ -4,11 +4,11 @@ use native.Mathlib.Omega.{arith}
 use Rattle.counts.specs.Reads.{pairTests, pairCode, pairReadCode}
 use Rattle.report.specs.declared.LineAnswer.the-variants.{UnknownPlace}
 use Rattle.report.proofs.LineLaws.{same-line, refused, passed}
-use Rattle.answers.specs.Numbers.{pairNumbers}
-use Rattle.answers.proofs.NumberLaws.{pair-read}
+use Rattle.numbers.specs.Numbers.{pairNumbers}
+use Rattle.numbers.proofs.NumberLaws.{pair-read}
 use borrow.Author.Needs.{needs}
-use Rattle.answers.proofs.numbers.pair_numbers.Statement.{statement}
-use Rattle.answers.proofs.numbers.pair_numbers.Tie as tie
+use Rattle.numbers.proofs.pair_numbers.Statement.{statement}
+use Rattle.numbers.proofs.pair_numbers.Tie as tie
 
 read-pair-requires : tie.Need-read-pair-requires
 read-pair-requires c κs = search needs

@@ -4,11 +4,11 @@ use native.Mathlib.Omega.{arith}
 use Rattle.counts.specs.Reads.{actTests, actCode, actReadCode}
 use Rattle.report.specs.declared.LineAnswer.the-variants.{UnknownActivity}
 use Rattle.report.proofs.LineLaws.{same-line, refused, passed}
-use Rattle.answers.specs.Numbers.{actNumbers}
-use Rattle.answers.proofs.NumberLaws.{act-read}
+use Rattle.numbers.specs.Numbers.{actNumbers}
+use Rattle.numbers.proofs.NumberLaws.{act-read}
 use borrow.Author.Needs.{needs}
-use Rattle.answers.proofs.numbers.act_numbers.Statement.{statement}
-use Rattle.answers.proofs.numbers.act_numbers.Tie as tie
+use Rattle.numbers.proofs.act_numbers.Statement.{statement}
+use Rattle.numbers.proofs.act_numbers.Tie as tie
 
 read-act-requires : tie.Need-read-act-requires
 read-act-requires c κs = search needs

@@ -19,7 +19,7 @@ use Rattle.counts.specs.declared.PairRead.the-variants as pair
 use Rattle.counts.specs.declared.TrailCounts.{TrailCounts}
 use Rattle.checkpoint.proofs.Copies.{sets-over}
 use Rattle.report.proofs.TrailLaws.{place-held, act-held, pair-stored}
-use Rattle.answers.specs.Numbers.{trailNumbers, placeNumbers, actNumbers, pairNumbers}
+use Rattle.numbers.specs.Numbers.{trailNumbers, placeNumbers, actNumbers, pairNumbers}
 
 module _ (l l1 l2 l3 : List ℕ) (a b c : ℕ) (p1 : Put l 0 a l1) (p2 : Put l1 1 b l2) (p3 : Put l2 2 c l3) where
   three-sets : l3 ≡ sets l 0 (bytesOf (a ∷ b ∷ c ∷ []))

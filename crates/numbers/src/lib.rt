@@ -13,7 +13,7 @@ ghost use Rattle.words.specs.Words.{bytesOf};
 ghost use Rattle.replay.specs.Ready.{Ready};
 ghost use Rattle.counts.specs.Reads.{placeTests, actTests, pairTests};
 ghost use Rattle.report.specs.Answer.{Writes};
-ghost use Rattle.answers.specs.Numbers.{trailNumbers, placeNumbers, actNumbers, pairNumbers};
+ghost use Rattle.numbers.specs.Numbers.{trailNumbers, placeNumbers, actNumbers, pairNumbers};
 
 fn write_three(a: u32, b: u32, c: u32, out: &mut [u8]) -> LineAnswer
     ensures { λ r. ⌜ Writes [] (bytesOf (a ∷ b ∷ c ∷ [])) (now (out .entry)) r (now (out .exit)) ⌝ }

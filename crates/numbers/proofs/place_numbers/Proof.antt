@@ -4,11 +4,11 @@ use native.Mathlib.Omega.{arith}
 use Rattle.counts.specs.Reads.{placeTests, placeCode, placeReadCode}
 use Rattle.report.specs.declared.LineAnswer.the-variants.{UnknownPlace}
 use Rattle.report.proofs.LineLaws.{same-line, refused, passed}
-use Rattle.answers.specs.Numbers.{placeNumbers}
-use Rattle.answers.proofs.NumberLaws.{place-read}
+use Rattle.numbers.specs.Numbers.{placeNumbers}
+use Rattle.numbers.proofs.NumberLaws.{place-read}
 use borrow.Author.Needs.{needs}
-use Rattle.answers.proofs.numbers.place_numbers.Statement.{statement}
-use Rattle.answers.proofs.numbers.place_numbers.Tie as tie
+use Rattle.numbers.proofs.place_numbers.Statement.{statement}
+use Rattle.numbers.proofs.place_numbers.Tie as tie
 
 read-place-requires : tie.Need-read-place-requires
 read-place-requires c κs = search needs
