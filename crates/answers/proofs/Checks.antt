@@ -1,11 +1,13 @@
 -- What a call on a lent trail answers and leaves, by what came of the trail's check: behind a refusal nothing else counts.
 -- Assumes nothing.
 use Prim.Native.Nat.{ℕ, _≤_, _<_}
-use mathlib.Core.Path.{_≡_}
+use mathlib.Core.Bool.{Bool}
+use mathlib.Core.Path.{_≡_, ap, sym, _∙_}
 use mathlib.Core.List.{List}
 use native.Mathlib.Omega.{arith}
 use lib.ListN.{length, getD}
 use borrow.Author.Tests.{ltb-false, eq-eqb, ne-eqb}
+use Rattle.words.specs.Lists.{pick}
 use Rattle.words.proofs.Refusals.{none-apply}
 use Rattle.net.specs.Table.{loadCode}
 use Rattle.net.specs.Held.{afterLoad}
@@ -52,10 +54,10 @@ module _ (b w : List ℕ) (r : ℕ) (C : Checked b w r) where
     refused z = n (omega (arith, C .answer, no-second b z))
 
     pub stop-answer : (own : ℕ) → r ≡ onTrail b own
-    stop-answer own = rw (ne-eqb (restoreCode b) 0 refused) (C .answer)
+    stop-answer own = C .answer ∙ sym (ap (λ (t : Bool). pick t own (packed (restoreCode b) (restoreSecond b))) (ne-eqb (restoreCode b) 0 refused))
 
     pub stop-bytes : (own lent : List ℕ) → lent ≡ leftBy b own lent
-    stop-bytes own lent = rw (ne-eqb (restoreCode b) 0 refused)
+    stop-bytes own lent = sym (ap (λ (t : Bool). pick t own lent) (ne-eqb (restoreCode b) 0 refused))
 
   -- the trail is taken
   module _ (z : r ≡ 0) where
@@ -66,7 +68,7 @@ module _ (b w : List ℕ) (r : ℕ) (C : Checked b w r) where
     few = taken-le b taken
 
     pub go-answer : (own : ℕ) → own ≡ onTrail b own
-    go-answer own = rw (eq-eqb (restoreCode b) 0 taken)
+    go-answer own = sym (ap (λ (t : Bool). pick t own (packed (restoreCode b) (restoreSecond b))) (eq-eqb (restoreCode b) 0 taken))
 
     pub go-bytes : (own lent : List ℕ) → own ≡ leftBy b own lent
-    go-bytes own lent = rw (eq-eqb (restoreCode b) 0 taken)
+    go-bytes own lent = sym (ap (λ (t : Bool). pick t own lent) (eq-eqb (restoreCode b) 0 taken))

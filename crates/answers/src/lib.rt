@@ -1,5 +1,5 @@
 // Answers as numbers: the refusal's number in the low 32 bits, 0 where a call was taken, and a second number above it.
-// Above the libraries whose answers they are; what C lends and gets back is read and written here as bytes.
+// Above the libraries whose answers they are. A lent trail is checked here, and an event's objects are read from bytes.
 
 ghost use mathlib.Core.Path.{_≡_};
 ghost use Prim.Native.Nat.{_≤_};

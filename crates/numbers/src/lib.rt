@@ -1,4 +1,4 @@
-// The whole numbers of the lines, as four-byte numbers in lent bytes.
+// The whole numbers of the lines, as four-byte numbers in lent bytes. Above `counts` and `report`, and beside `answers`.
 
 use counts::ActRead;
 use counts::PairRead;
