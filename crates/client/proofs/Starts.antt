@@ -21,8 +21,9 @@ use Rattle.replay.proofs.Keep.{sound-start}
 use Rattle.replay.proofs.Encode.{encode-le}
 use Rattle.starting.specs.Startable.{Startable}
 use Rattle.starting.proofs.StartLaws.{table-few, objects-few, record-size}
-use Rattle.client.specs.Client.{packed, beginCode, startAnswer, startLeaves}
-use Rattle.client.specs.Checked.{Loads}
+use Rattle.answers.specs.Answers.{packed}
+use Rattle.client.specs.Client.{beginCode, startAnswer, startLeaves}
+use Rattle.client.specs.Loads.{Loads}
 
 -- what loading a table that is taken leaves in the work words
 pub loads : (table w v : List ℕ) → loadCode table ≡ 0 → length w ≡ 1684 → v ≡ afterLoad table w → Loads v table

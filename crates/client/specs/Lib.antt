@@ -1,3 +1,3 @@
 pub mod Client
-pub mod Checked
+pub mod Loads
 pub mod Objects

@@ -1,14 +1,12 @@
 // The calls behind the check of what is lent: a trail to which none of 41 to 47 applies, a table that loads.
 
-use crate::answers::check_code;
-use crate::answers::check_second;
-use crate::answers::close_code;
-use crate::answers::event_code;
-use crate::answers::pack;
-use crate::answers::saved_code;
-use crate::answers::start_code;
-use crate::objects::count_objects;
-use crate::objects::object_at;
+use answers::close_code;
+use answers::event_code;
+use answers::objects::count_objects;
+use answers::objects::object_at;
+use answers::pack;
+use answers::saved_code;
+use answers::start_code;
 ghost use mathlib.Core.Path.{_≡_};
 ghost use Prim.Native.Nat.{_≤_};
 ghost use lib.ListN.{length};
@@ -17,17 +15,10 @@ ghost use Rattle.replay.specs.Ready.{Ready};
 ghost use Rattle.starting.specs.Startable.{Startable};
 ghost use Rattle.events.specs.Answers.{askEvent, askClose};
 ghost use Rattle.checkpoint.specs.Calls.{saveCode, saveBytes};
-ghost use Rattle.client.specs.Client.{packed, wrote, startAnswer, startLeaves, objectsIn};
-ghost use Rattle.client.specs.Checked.{Checked, Loads};
-
-// 41 to 47 with the second number of 43 and 44. Where none applies it is 0, and the words t hold the trail's net.
-pub fn checked(trail: &[u8], t: &mut [u32; 1684]) -> u64
-    requires { ⌜ length (now t) ≡ 1684 ⌝ }
-    ensures { λ r. ⌜ Checked (now (trail .entry)) (now (t .exit)) r ⌝ }
-{
-    let r = checkpoint::check(trail, t);
-    pack(check_code(r), check_second(r))
-}
+ghost use Rattle.answers.specs.Answers.{packed, wrote};
+ghost use Rattle.answers.specs.Objects.{objectsIn};
+ghost use Rattle.client.specs.Client.{startAnswer, startLeaves};
+ghost use Rattle.client.specs.Loads.{Loads};
 
 pub fn put_event(trail: &mut [u8], t: &[u32; 1684], activity: u32, objects: &[u8]) -> u64
     requires { ⌜ Ready (now t) (now trail) ⌝ }
@@ -62,7 +53,7 @@ pub fn put_save(trail: &[u8], lent: &mut [u8]) -> u64
     requires { ⌜ length (now trail) ≤ 29844 ⌝ }
     ensures { λ r. ⌜ (r ≡ wrote (saveCode (now (trail .entry)) (length (now (lent .entry)))) (length (now (trail .entry)))) × (now (lent .exit) ≡ saveBytes (now (trail .entry)) (now (lent .entry))) ⌝ }
 {
-    let code = saved_code(checkpoint::save(trail, lent));
+    let code = saved_code(resuming::save(trail, lent));
     if code != 0 {
         return pack(code, 0);
     }

@@ -1,20 +1,19 @@
 // The functions of the marking client, for C: numbers and byte slices, the trail held in lent bytes, which are its record.
 // Above all other libraries. Any bytes are taken or refused, 41 to 47 before a call's own numbers and 61 last.
 
-use crate::answers::load_code;
-use crate::answers::pack;
-use crate::answers::resumed_code;
-use crate::answers::resumed_second;
-use crate::answers::written;
 use crate::calls::begin;
-use crate::calls::checked;
 use crate::calls::put_close;
 use crate::calls::put_event;
 use crate::calls::put_save;
-use crate::numbers::act_numbers;
-use crate::numbers::pair_numbers;
-use crate::numbers::place_numbers;
-use crate::numbers::trail_numbers;
+use answers::check::checked;
+use answers::pack;
+use answers::resumed_code;
+use answers::resumed_second;
+use answers::written;
+use numbers::act_numbers;
+use numbers::pair_numbers;
+use numbers::place_numbers;
+use numbers::trail_numbers;
 ghost use mathlib.Core.Path.{_≡_};
 ghost use mathlib.Core.List.{[]};
 ghost use lib.ListN.{length};
@@ -22,12 +21,11 @@ ghost use Rattle.events.specs.Answers.{askEvent, askClose};
 ghost use Rattle.counts.specs.Reads.{placeTests, actTests, pairTests};
 ghost use Rattle.checkpoint.specs.Take.{takeBytes};
 ghost use Rattle.report.specs.TrailLines.{trailLineAt, placeLineAt, actLineAt, jumpLineAt};
-ghost use Rattle.client.specs.Client.{loadAnswer, startAnswer, startLeaves, objectsIn, askAnswer, askLeaves, restoreAnswer, saveAnswer, saveLeaves, writeAnswer, writeLeaves, trailNumbers, placeNumbers, actNumbers, pairNumbers};
+ghost use Rattle.answers.specs.Objects.{objectsIn};
+ghost use Rattle.numbers.specs.Numbers.{trailNumbers, placeNumbers, actNumbers, pairNumbers};
+ghost use Rattle.client.specs.Client.{loadAnswer, startAnswer, startLeaves, askAnswer, askLeaves, restoreAnswer, saveAnswer, saveLeaves, writeAnswer, writeLeaves};
 
-mod answers;
 mod calls;
-mod numbers;
-mod objects;
 
 // Loads a table, to see whether it is taken: 1 to 9.
 #[no_mangle]
@@ -35,7 +33,7 @@ pub extern "C" fn conform_load(table: &[u8]) -> u64
     ensures { λ r. ⌜ r ≡ loadAnswer (now (table .entry)) ⌝ }
 {
     let mut t = [0u32; 1684];
-    pack(load_code(loader::load(table, &mut t)), 0)
+    pack(net::number(loader::load(table, &mut t)), 0)
 }
 
 // Starts a trail: 1 to 9 of the table, 11 and 12 of the objects' kinds, and 61; or its record in front of the lent bytes.
@@ -45,7 +43,7 @@ pub extern "C" fn conform_start(table: &[u8], objects: &[u8], trail: &mut [u8]) 
     ensures { λ _. ⌜ now (trail .exit) ≡ startLeaves (now (table .entry)) (now (objects .entry)) (now (trail .entry)) ⌝ }
 {
     let mut t = [0u32; 1684];
-    let refused = load_code(loader::load(table, &mut t));
+    let refused = net::number(loader::load(table, &mut t));
     if refused != 0 {
         return pack(refused, 0);
     }
@@ -86,7 +84,7 @@ pub extern "C" fn conform_restore(saved: &[u8], trail: &mut [u8]) -> u64
     ensures { λ r. ⌜ r ≡ restoreAnswer (now (saved .entry)) (length (now (trail .entry))) ⌝ }
     ensures { λ _. ⌜ now (trail .exit) ≡ takeBytes (now (saved .entry)) (now (trail .entry)) ⌝ }
 {
-    let r = checkpoint::restore(saved, trail);
+    let r = resuming::restore(saved, trail);
     let refused = resumed_code(r);
     if refused != 0 {
         return pack(refused, resumed_second(r));

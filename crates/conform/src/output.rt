@@ -1,24 +1,11 @@
 // The report (the sheet), and the line of a refusal, on standard output.
 
-use lines::LineAnswer;
+use lines::size;
 use report::trail::NextJump;
 ghost use mathlib.Core.Path.{_≡_};
 ghost use Prim.Native.Nat.{_≤_};
 ghost use lib.ListN.{length};
 ghost use Rattle.replay.specs.Ready.{Ready};
-ghost use Rattle.lines.specs.Answer.{sizeOf};
-
-// How many bytes a line has.
-fn size(a: LineAnswer) -> usize
-    ensures { λ r. ⌜ r ≡ sizeOf a ⌝ }
-{
-    match a {
-        LineAnswer::Written(n) => n,
-        LineAnswer::UnknownPlace => 0,
-        LineAnswer::UnknownActivity => 0,
-        LineAnswer::NoRoom => 0,
-    }
-}
 
 // The line of a refusal, with the events accepted before it.
 pub fn refuse(code: u32, events: u32) {

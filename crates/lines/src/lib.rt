@@ -9,7 +9,7 @@ ghost use Prim.Native.Nat.{_≤_};
 ghost use lib.ListN.{length};
 ghost use Rattle.replay.specs.Calls.{over};
 ghost use Rattle.lines.specs.Lines.{fieldsText, lineOf, trailLine, placeLine, actLine, jumpLine, refusedLine};
-ghost use Rattle.lines.specs.Answer.{Writes};
+ghost use Rattle.lines.specs.Answer.{sizeOf, Writes};
 
 mod decimal;
 mod field;
@@ -25,6 +25,18 @@ pub enum LineAnswer {
     UnknownActivity,
     // 61: the lent part is shorter than the line.
     NoRoom,
+}
+
+// How many bytes were written.
+pub fn size(r: LineAnswer) -> usize
+    ensures { λ n. ⌜ n ≡ sizeOf r ⌝ }
+{
+    match r {
+        LineAnswer::Written(n) => n,
+        LineAnswer::UnknownPlace => 0,
+        LineAnswer::UnknownActivity => 0,
+        LineAnswer::NoRoom => 0,
+    }
 }
 
 // How many bytes the fields take, with the line feed that ends the line.

@@ -2,7 +2,7 @@
 use mathlib.Core.List.{List}
 use Prim.Native.Nat.{ℕ}
 use Rattle.counts.specs.Reads.{actTests}
-use Rattle.client.specs.Client.{actNumbers}
+use Rattle.numbers.specs.Numbers.{actNumbers}
 use Rattle.client.proofs.Checks.{write-stops, write-goes}
 use borrow.Author.Needs.{needs}
 use Rattle.client.proofs.conform_act_counts.Statement.{statement}

@@ -2,7 +2,7 @@
 use mathlib.Core.List.{List}
 use Prim.Native.Nat.{ℕ}
 use Rattle.counts.specs.Reads.{pairTests}
-use Rattle.client.specs.Client.{pairNumbers}
+use Rattle.numbers.specs.Numbers.{pairNumbers}
 use Rattle.client.proofs.Checks.{write-stops, write-goes}
 use borrow.Author.Needs.{needs}
 use Rattle.client.proofs.conform_jump_count.Statement.{statement}

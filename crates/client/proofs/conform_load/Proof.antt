@@ -1,7 +1,8 @@
 -- The number of the table. Assumes nothing.
 use mathlib.Core.Path.{ap, _∙_}
 use Prim.Native.Nat.{ℕ}
-use Rattle.client.specs.Client.{packed, loadAnswer}
+use Rattle.answers.specs.Answers.{packed}
+use Rattle.client.specs.Client.{loadAnswer}
 use borrow.Author.Needs.{needs}
 use Rattle.client.proofs.conform_load.Statement.{statement}
 use Rattle.client.proofs.conform_load.Tie as tie
@@ -9,15 +10,15 @@ use Rattle.client.proofs.conform_load.Tie as tie
 load-requires : tie.Need-load-requires
 load-requires c κs = search needs
 
-load-code-requires : tie.Need-load-code-requires
-load-code-requires c κs = search needs
+number-requires : tie.Need-number-requires
+number-requires c κs = search needs
 
 pack-requires : tie.Need-pack-requires
 pack-requires c κs = search needs
 
 returns : tie.Need-returns
 unfolding loadAnswer
-returns c = c .pack .ensures ∙ ap (λ (n : ℕ). packed n 0) (c .before .load-code .ensures ∙ c .before .before .load .ensures .0)
+returns c = c .pack .ensures ∙ ap (λ (n : ℕ). packed n 0) (c .before .number .ensures ∙ c .before .before .load .ensures .0)
 
 pub conform-load-spec : {M : Type 1} → statement M
-conform-load-spec = tie.close (tie.spec load-requires load-code-requires pack-requires returns)
+conform-load-spec = tie.close (tie.spec load-requires number-requires pack-requires returns)

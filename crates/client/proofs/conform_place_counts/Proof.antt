@@ -2,7 +2,7 @@
 use mathlib.Core.List.{List}
 use Prim.Native.Nat.{ℕ}
 use Rattle.counts.specs.Reads.{placeTests}
-use Rattle.client.specs.Client.{placeNumbers}
+use Rattle.numbers.specs.Numbers.{placeNumbers}
 use Rattle.client.proofs.Checks.{write-stops, write-goes}
 use borrow.Author.Needs.{needs}
 use Rattle.client.proofs.conform_place_counts.Statement.{statement}

@@ -1,5 +1,6 @@
 -- A refused trail stops the call; else the answer is the save's own. Assumes nothing.
-use Rattle.client.proofs.Checks.{few, save-stops, save-goes}
+use Rattle.answers.proofs.Checks.{few}
+use Rattle.client.proofs.Checks.{save-stops, save-goes}
 use borrow.Author.Needs.{needs}
 use Rattle.client.proofs.conform_save.Statement.{statement}
 use Rattle.client.proofs.conform_save.Tie as tie

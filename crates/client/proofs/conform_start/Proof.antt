@@ -10,20 +10,20 @@ use Rattle.client.proofs.conform_start.Tie as tie
 load-requires : tie.Need-load-requires
 load-requires c κs = search needs
 
-load-code-requires : tie.Need-load-code-requires
-load-code-requires c κs = search needs
+number-requires : tie.Need-number-requires
+number-requires c κs = search needs
 
 pack-requires : tie.Need-pack-requires
 pack-requires c κs = search needs
 
 returns : tie.Need-returns
 returns c = let a = c .before .before .before .before .before .before .before .before .args in
-    let e = c .before .before .load-code .ensures ∙ c .before .before .before .load .ensures .0 in
+    let e = c .before .before .number .ensures ∙ c .before .before .before .load .ensures .0 in
     table-stops (a .table .now) (a .objects .now) (a .trail .now) (λ z. c .before .if1 .taken (e ∙ z)) _ _ e (c .pack .ensures)
 
 begin-requires : tie.Need-begin-requires
 begin-requires c κs = let k = c .before .before .before .before .load in
-    loads _ _ _ (sym (c .before .before .before .load-code .ensures ∙ k .ensures .0) ∙ c .before .before .if1 .left) (length-replicate {A = ℕ} 1684 0) (k .ensures .1)
+    loads _ _ _ (sym (c .before .before .before .number .ensures ∙ k .ensures .0) ∙ c .before .before .if1 .left) (length-replicate {A = ℕ} 1684 0) (k .ensures .1)
 
 same-length : tie.Need-same-length
 same-length c = search needs
@@ -36,7 +36,7 @@ conform-start-spec =
     tie.close
     (tie.spec
     load-requires
-    load-code-requires
+    number-requires
     pack-requires
     returns
     begin-requires

@@ -1,7 +1,7 @@
 -- A refused trail stops the call; else the answer is that of the writing. Assumes nothing.
 use mathlib.Core.List.{List, []}
 use Prim.Native.Nat.{ℕ}
-use Rattle.client.specs.Client.{trailNumbers}
+use Rattle.numbers.specs.Numbers.{trailNumbers}
 use Rattle.client.proofs.Checks.{write-stops, write-goes}
 use borrow.Author.Needs.{needs}
 use Rattle.client.proofs.conform_trail_counts.Statement.{statement}

@@ -5,8 +5,9 @@ use Prim.Native.Nat.{ℕ}
 use lib.ListN.{length, take}
 use Rattle.replay.specs.Calls.{askCode, askBytes}
 use Rattle.events.specs.Answers.{askEvent}
-use Rattle.client.specs.Client.{packed, objectsIn}
-use Rattle.client.proofs.ObjectLaws.{nine-read}
+use Rattle.answers.specs.Answers.{packed}
+use Rattle.answers.specs.Objects.{objectsIn}
+use Rattle.answers.proofs.ObjectLaws.{nine-read}
 use borrow.Author.Needs.{needs}
 use Rattle.client.proofs.calls.put_event.Statement.{statement}
 use Rattle.client.proofs.calls.put_event.Tie as tie

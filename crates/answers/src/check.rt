@@ -1,0 +1,17 @@
+// The check of a trail that is lent.
+
+use crate::check_code;
+use crate::check_second;
+use crate::pack;
+ghost use mathlib.Core.Path.{_≡_};
+ghost use lib.ListN.{length};
+ghost use Rattle.answers.specs.Checked.{Checked};
+
+// 41 to 47 with the second number of 43 and 44. Where none applies it is 0, and the words t hold the trail's net.
+pub fn checked(trail: &[u8], t: &mut [u32; 1684]) -> u64
+    requires { ⌜ length (now t) ≡ 1684 ⌝ }
+    ensures { λ r. ⌜ Checked (now (trail .entry)) (now (t .exit)) r ⌝ }
+{
+    let r = resuming::check(trail, t);
+    pack(check_code(r), check_second(r))
+}

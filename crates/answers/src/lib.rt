@@ -1,0 +1,145 @@
+// Answers as numbers: the refusal's number in the low 32 bits, 0 where a call was taken, and a second number above it.
+// Above the libraries whose answers they are. A lent trail is checked here, and an event's objects are read from bytes.
+
+ghost use mathlib.Core.Path.{_≡_};
+ghost use Prim.Native.Nat.{_≤_};
+ghost use Rattle.starting.specs.StartAnswers.{startAnswerCode};
+ghost use Rattle.events.specs.Answers.{eventCode, closeCode};
+ghost use Rattle.checkpoint.specs.Answers.{restoreAnswerCode, restoreAnswerSecond, resumedCode, resumedSecond, savedCode};
+ghost use Rattle.lines.specs.Answer as lines;
+ghost use Rattle.answers.specs.Answers.{packed};
+
+pub mod check;
+pub mod objects;
+
+pub fn pack(code: u32, high: u32) -> u64
+    ensures { λ r. ⌜ r ≡ packed code high ⌝ }
+{
+    (code as u64) + 4294967296 * (high as u64)
+}
+
+pub fn start_code(r: starting::StartAnswer) -> u32
+    ensures { λ n. ⌜ n ≡ startAnswerCode r ⌝ }
+{
+    match r {
+        starting::StartAnswer::Taken => 0,
+        starting::StartAnswer::Number => 11,
+        starting::StartAnswer::Kind => 12,
+        starting::StartAnswer::NoRoom => 61,
+    }
+}
+
+pub fn event_code(r: events::event::EventAnswer) -> u32
+    ensures { λ n. ⌜ n ≡ eventCode r ⌝ }
+{
+    match r {
+        events::event::EventAnswer::Taken => 0,
+        events::event::EventAnswer::Closed => 21,
+        events::event::EventAnswer::Full => 22,
+        events::event::EventAnswer::Activity => 23,
+        events::event::EventAnswer::Number => 24,
+        events::event::EventAnswer::Object => 25,
+        events::event::EventAnswer::Kind => 26,
+        events::event::EventAnswer::TwoOfKind => 27,
+    }
+}
+
+pub fn close_code(r: events::close::CloseAnswer) -> u32
+    ensures { λ n. ⌜ n ≡ closeCode r ⌝ }
+{
+    match r {
+        events::close::CloseAnswer::Taken => 0,
+        events::close::CloseAnswer::AlreadyClosed => 31,
+    }
+}
+
+fn check_code(r: checkpoint::RestoreAnswer) -> u32
+    ensures { λ n. ⌜ n ≡ restoreAnswerCode r ⌝ }
+{
+    match r {
+        checkpoint::RestoreAnswer::Taken => 0,
+        checkpoint::RestoreAnswer::Length => 41,
+        checkpoint::RestoreAnswer::Layout => 42,
+        checkpoint::RestoreAnswer::Table(_) => 43,
+        checkpoint::RestoreAnswer::Objects(_) => 44,
+        checkpoint::RestoreAnswer::Positions => 45,
+        checkpoint::RestoreAnswer::Counts => 46,
+        checkpoint::RestoreAnswer::Jumps => 47,
+    }
+}
+
+// The second number of 43 and 44.
+fn check_second(r: checkpoint::RestoreAnswer) -> u32
+    ensures { λ n. ⌜ n ≡ restoreAnswerSecond r ⌝ }
+{
+    match r {
+        checkpoint::RestoreAnswer::Taken => 0,
+        checkpoint::RestoreAnswer::Length => 0,
+        checkpoint::RestoreAnswer::Layout => 0,
+        checkpoint::RestoreAnswer::Table(n) => n,
+        checkpoint::RestoreAnswer::Objects(n) => n,
+        checkpoint::RestoreAnswer::Positions => 0,
+        checkpoint::RestoreAnswer::Counts => 0,
+        checkpoint::RestoreAnswer::Jumps => 0,
+    }
+}
+
+pub fn resumed_code(r: checkpoint::Resumed) -> u32
+    ensures { λ n. ⌜ n ≡ resumedCode r ⌝ }
+{
+    match r {
+        checkpoint::Resumed::Taken => 0,
+        checkpoint::Resumed::Length => 41,
+        checkpoint::Resumed::Layout => 42,
+        checkpoint::Resumed::Table(_) => 43,
+        checkpoint::Resumed::Objects(_) => 44,
+        checkpoint::Resumed::Positions => 45,
+        checkpoint::Resumed::Counts => 46,
+        checkpoint::Resumed::Jumps => 47,
+        checkpoint::Resumed::Room => 61,
+    }
+}
+
+pub fn resumed_second(r: checkpoint::Resumed) -> u32
+    ensures { λ n. ⌜ n ≡ resumedSecond r ⌝ }
+{
+    match r {
+        checkpoint::Resumed::Taken => 0,
+        checkpoint::Resumed::Length => 0,
+        checkpoint::Resumed::Layout => 0,
+        checkpoint::Resumed::Table(n) => n,
+        checkpoint::Resumed::Objects(n) => n,
+        checkpoint::Resumed::Positions => 0,
+        checkpoint::Resumed::Counts => 0,
+        checkpoint::Resumed::Jumps => 0,
+        checkpoint::Resumed::Room => 0,
+    }
+}
+
+pub fn saved_code(r: checkpoint::Saved) -> u32
+    ensures { λ n. ⌜ n ≡ savedCode r ⌝ }
+{
+    match r {
+        checkpoint::Saved::Taken => 0,
+        checkpoint::Saved::Room => 61,
+    }
+}
+
+fn line_code(r: lines::LineAnswer) -> u32
+    ensures { λ n. ⌜ n ≡ lines.codeOf r ⌝ }
+{
+    match r {
+        lines::LineAnswer::Written(_) => 0,
+        lines::LineAnswer::UnknownPlace => 51,
+        lines::LineAnswer::UnknownActivity => 52,
+        lines::LineAnswer::NoRoom => 61,
+    }
+}
+
+// The answer to writing a line or its numbers: how many bytes are written where it is taken.
+pub fn written(r: lines::LineAnswer) -> u64
+    requires { ⌜ lines.sizeOf r ≤ 113 ⌝ }
+    ensures { λ n. ⌜ n ≡ packed (lines.codeOf r) (lines.sizeOf r) ⌝ }
+{
+    pack(line_code(r), lines::size(r) as u32)
+}

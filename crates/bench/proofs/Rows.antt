@@ -1,0 +1,134 @@
+-- The rows of a trail file's events body, and events one after the other. Assumes nothing.
+use Prim.Native.Nat.{ℕ, zero, suc, _+_, _-_, _*_, _≤_, _<_}
+use mathlib.Core.Path.{_≡_, refl, ap, ap₂, sym, subst, _∙_}
+use mathlib.Core.List.{List, [], _∷_}
+use native.Mathlib.Omega.{arith}
+use native.Mathlib.Decide.{decLe}
+use native.Mathlib.Nat.{sub-zero, zero-add, add-zero}
+use lib.ListN.{length, getD, take, drop, length-take, length-drop}
+use lib.Seq.{getD-take, getD-drop, drop-drop, ext-getD, length-take-le}
+use borrow.Author.Tests.{le-leb, lt-leb, leb-false, eq-eqb, ne-eqb}
+use Rattle.words.specs.Words.{wordsOf}
+use Rattle.words.proofs.Lists.{is-eq}
+use Rattle.words.proofs.Refusals.{none-apply}
+use Rattle.net.specs.Net.{Loaded}
+use Rattle.replay.specs.Plain.{Ask, eventTests}
+use Rattle.replay.specs.Calls.{netAt, stateAt, askCode, askBytes}
+use Rattle.replay.specs.Ready.{Ready}
+use Rattle.replay.proofs.RecordLaws.{ready-loaded}
+use Rattle.events.specs.Answers.{askEvent}
+use Rattle.events.proofs.Kept.{ready-asked}
+use Rattle.bench.specs.Bench.{rowSize, rowAt, rowsOf, eventsIn, accepted, carried}
+
+-- n numbers that are kept one by one are the front of the list
+pub front : (xs ys : List ℕ) (n : ℕ) → n ≤ length xs → n ≤ length ys → ((k : ℕ) → k < n → getD xs k 0 ≡ getD ys k 0) → take n xs ≡ take n ys
+front xs ys n hx hy f =
+    let l : length (take n xs) ≡ n = length-take-le n xs hx in
+    ext-getD 0 (take n xs) (take n ys) (l ∙ sym (length-take-le n ys hy)) (λ k h. getD-take n xs k 0 (omega arith) ∙ f k (omega arith) ∙ sym (getD-take n ys k 0 (omega arith)))
+
+-- the objects of the row at number `at`, and its event
+pub objects-size : (ws : List ℕ) (at n : ℕ) → at + (2 + n) ≤ length ws → n ≡ length (take n (drop (at + 2) ws))
+objects-size ws at n h = sym (length-take-le n (drop (at + 2) ws) (simp length-drop (omega arith)))
+
+pub row-is : (ws : List ℕ) (at a n : ℕ) (os : List ℕ) → a ≡ getD ws at 0 → n ≡ getD (drop at ws) 1 0 → os ≡ take n (drop (at + 2) ws) → askEvent a os ≡ rowAt (drop at ws)
+row-is ws at a n os e f g = ap₂ askEvent (e ∙ sym (getD-drop at ws 0 0 ∙ rw add-zero)) (g ∙ ap₂ take f (sym (drop-drop 2 at ws)))
+
+-- a row that is cut off, and a whole one
+module _ (ws : List ℕ) where
+  row-cut : (n : ℕ) → length ws < rowSize ws → rowsOf n ws ≡ []
+  unfolding rowsOf
+  row-cut zero h = refl
+  row-cut (suc n) h = rw (lt-leb (rowSize ws) (length ws) h)
+
+  row-whole : (n : ℕ) → rowSize ws ≤ length ws → rowsOf (suc n) ws ≡ rowAt ws ∷ rowsOf n (drop (rowSize ws) ws)
+  unfolding rowsOf
+  row-whole n h = rw (le-leb (rowSize ws) (length ws) h)
+
+-- the first event is refused, or accepted
+module _ (b : List ℕ) (q : Ask) (qs : List Ask) where
+  none-accepted : (askCode b q ≡ 0 → ⊥) → (accepted b (q ∷ qs) ≡ 0) × (carried b (q ∷ qs) ≡ b)
+  unfolding accepted carried
+  none-accepted p = (rw (ne-eqb (askCode b q) 0 p), rw (ne-eqb (askCode b q) 0 p))
+
+  one-accepted : askCode b q ≡ 0 → (accepted b (q ∷ qs) ≡ 1 + accepted (askBytes b q) qs) × (carried b (q ∷ qs) ≡ carried (askBytes b q) qs)
+  unfolding accepted carried
+  one-accepted z = (rw (eq-eqb (askCode b q) 0 z), rw (eq-eqb (askCode b q) 0 z))
+
+-- an event with over eight objects is refused
+many-refused : (w b : List ℕ) → Ready w b → (a : ℕ) (os : List ℕ) → 8 < length os → askCode b (askEvent a os) ≡ 0 → ⊥
+unfolding askCode
+many-refused w b R a os h z =
+    let L : Loaded (netAt b) = subst Loaded (R .net) (ready-loaded w b R) in
+    let n = none-apply (eventTests (netAt b) (stateAt b .kinds) (stateAt b .closed) (stateAt b .events) (record { act = a; objs = os })) (omega arith) z in
+    omega (arith, L .arcs-le a (leb-false (netAt b .acts) a (n .1 .1 .0)), is-eq (length os) (length (netAt b .arcs a)) (n .1 .1 .1 .0))
+
+-- n events of the body s are accepted and the trail b₀ has become b: what is left is the rows from number `at` on
+pub record Left (t b₀ s b : List ℕ) (at n : ℕ) : Type 0 where
+  pub ready : Ready t b
+  pub inside : at ≤ length (wordsOf s)
+  pub few : 2 * n ≤ at
+  pub count : n + accepted b (rowsOf (length (wordsOf s) - n) (drop at (wordsOf s))) ≡ accepted b₀ (eventsIn s)
+  pub bytes : carried b (rowsOf (length (wordsOf s) - n) (drop at (wordsOf s))) ≡ carried b₀ (eventsIn s)
+
+pub left-start : (t b s : List ℕ) → Ready t b → Left t b s b 0 0
+unfolding eventsIn
+left-start t b s R = record { ready = R; inside = omega arith; few = omega arith; count = rw (sub-zero, zero-add); bytes = rw sub-zero }
+
+module _ (t b₀ s b : List ℕ) (at n : ℕ) (L : Left t b₀ s b at n) where
+  abbrev rest : List ℕ
+  rest = drop at (wordsOf s)
+
+  size-rest : length rest ≡ length (wordsOf s) - at
+  size-rest = length-drop at (wordsOf s)
+
+  -- the row at the front is cut off
+  pub left-cut : length (wordsOf s) < at + rowSize rest → (n ≡ accepted b₀ (eventsIn s)) × (b ≡ carried b₀ (eventsIn s))
+  unfolding accepted carried
+  left-cut h =
+      let none : rowsOf (length (wordsOf s) - n) rest ≡ [] = row-cut rest (length (wordsOf s) - n) (omega (arith, size-rest)) in
+      (omega (arith, L .count, ap (accepted b) none), sym (ap (carried b) none) ∙ L .bytes)
+
+  -- it is whole
+  module _ (h : at + rowSize rest ≤ length (wordsOf s)) where
+    abbrev q : Ask
+    q = rowAt rest
+
+    abbrev qs : List Ask
+    qs = rowsOf (length (wordsOf s) - (n + 1)) (drop (at + rowSize rest) (wordsOf s))
+
+    whole : rowsOf (length (wordsOf s) - n) rest ≡ q ∷ qs
+    whole =
+        let e : length (wordsOf s) - n ≡ suc (length (wordsOf s) - (n + 1)) = omega (arith, L .few) in
+        rw e (row-whole rest (length (wordsOf s) - (n + 1)) (omega (arith, size-rest)) ∙ ap (λ (ws : List ℕ). q ∷ rowsOf (length (wordsOf s) - (n + 1)) ws) (drop-drop (rowSize rest) at (wordsOf s)))
+
+    refused-all : (askCode b q ≡ 0 → ⊥) → (n ≡ accepted b₀ (eventsIn s)) × (b ≡ carried b₀ (eventsIn s))
+    refused-all p = let e = none-accepted b q qs p in
+        (omega (arith, L .count, ap (accepted b) whole, e .0), sym (ap (carried b) whole ∙ e .1) ∙ L .bytes)
+
+    -- its event is put to the trail, with this code and these bytes
+    module _ (code : ℕ) (x : List ℕ) (put : (code ≡ askCode b q) × (x ≡ askBytes b q)) where
+      pub left-refused : (code ≡ 0 → ⊥) → (n ≡ accepted b₀ (eventsIn s)) × (x ≡ carried b₀ (eventsIn s))
+      unfolding askBytes
+      left-refused p =
+          let none : askCode b q ≡ 0 → ⊥ = λ z. p (put .0 ∙ z) in
+          let k = refused-all none in
+          (k .0, put .1 ∙ rw (ne-eqb (askCode b q) 0 none) (k .1))
+
+      pub left-more : (m : ℕ) → m ≡ getD rest 1 0 → code ≡ 0 → Left t b₀ s x (at + (2 + m)) (n + 1)
+      left-more m f z = let e = one-accepted b q qs (sym (put .0) ∙ z) in
+          rw (f, put .1)
+          (record {
+            ready = ready-asked t b (L .ready) q;
+            inside = h;
+            few = omega (arith, L .few);
+            count = omega (arith, L .count, ap (accepted b) whole, e .0);
+            bytes = sym (ap (carried b) whole ∙ e .1) ∙ L .bytes;
+          })
+
+  -- it has over eight objects, whole or not
+  pub left-many : 8 < getD rest 1 0 → (n ≡ accepted b₀ (eventsIn s)) × (b ≡ carried b₀ (eventsIn s))
+  left-many h = go (decLe (at + rowSize rest) (length (wordsOf s)))
+    where
+      go : Dec (at + rowSize rest ≤ length (wordsOf s)) → (n ≡ accepted b₀ (eventsIn s)) × (b ≡ carried b₀ (eventsIn s))
+      go (yes w) = refused-all w (many-refused t b (L .ready) (getD rest 0 0) (take (getD rest 1 0) (drop 2 rest)) (simp (length-take, length-drop) (omega arith)))
+      go (no m) = left-cut (omega arith)
