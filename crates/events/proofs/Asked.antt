@@ -4,8 +4,9 @@ use mathlib.Core.Bool.{true}
 use mathlib.Core.Path.{_≡_, ap, sym, _∙_, subst}
 use mathlib.Core.List.{List}
 use native.Mathlib.Omega.{arith}
-use lib.ListN.{length, getD, take, length-map, length-take}
-use lib.Seq.{getD-take, ext-getD}
+use native.Mathlib.Decide.{ℕ-discrete}
+use lib.ListN.{length, getD, set, take, length-map, length-take}
+use lib.Seq.{getD-take, getD-set-same, getD-set-other, ext-getD}
 use Rattle.words.specs.Words.{wordsOf}
 use Rattle.words.proofs.Lists.{All-at, map-at}
 use Rattle.net.specs.Net.{GoodArc, takes, inputOf, outputOf}
@@ -19,6 +20,14 @@ use Rattle.replay.specs.Ready.{Ready}
 use Rattle.events.specs.Answers.{Counted, Known, Moving}
 use Rattle.replay.specs.declared.layout.Layout.{Layout}
 use Rattle.replay.proofs.RecordLaws.{Placed, record-size, record-few, get-kind, get-closed, get-events, ready-loaded, ready-sound, ready-words, ready-placed}
+
+-- numbers that are kept one by one
+pub set-more : (ks xs : List ℕ) (i v : ℕ) → i < length ks → v ≡ getD xs i 0 → ((j : ℕ) → j < i → getD ks j 0 ≡ getD xs j 0) → (j : ℕ) → j < i + 1 → getD (set ks i v) j 0 ≡ getD xs j 0
+set-more ks xs i v h e f j l = go (ℕ-discrete j i)
+  where
+    go : Dec (j ≡ i) → getD (set ks i v) j 0 ≡ getD xs j 0
+    go (yes q) = rw q (getD-set-same ks i v 0 h ∙ e)
+    go (no m) = getD-set-other ks i j v 0 m ∙ f j (omega arith)
 
 -- the layout, and how many numbers there are
 module _ (w b : List ℕ) (l : Layout) (R : Ready w b) (e : l ≡ layoutOf (netIn w) b) where
@@ -86,6 +95,9 @@ module _ (w b : List ℕ) (l : Layout) (a : ℕ) (os : List ℕ) (K : Known w b 
   kinds-kept ks e f =
       let n : length (take (length os) ks) ≡ length os = simp length-take (omega (arith, few-objects w b l a os (K .counted))) in
       ext-getD 0 (take (length os) ks) (kindsOf (stateAt b .kinds) os) (n ∙ sym kinds-length) (λ i h. getD-take (length os) ks i 0 (omega arith) ∙ f i (omega arith))
+
+  pub kinds-fit : (ks : List ℕ) → take (length os) ks ≡ kindsOf (stateAt b .kinds) os → length os ≤ length ks
+  kinds-fit ks e = omega (arith, length-take (length os) ks, ap length e, kinds-length)
 
 -- the kind of an event's object, and its places
 module _ (w b : List ℕ) (l : Layout) (a : ℕ) (os : List ℕ) (M : Moving w b l a os) (i : ℕ) (h : i < length os) where

@@ -1,6 +1,6 @@
 pub mod Asked
 pub mod Kept
-pub mod Loops
+pub mod PairLaws
 pub mod Sinks
 pub mod Steps
 pub mod Taken

@@ -81,16 +81,16 @@ fn foreign(
     false
 }
 
-// 27: two of the first n kinds are the same.
+// 27: two of the first n kinds are the same. Each is compared with those before it.
 fn two_of_kind(kinds: &[usize; 8], n: usize) -> bool
-    requires { ⌜ (n ≤ 8) × (length (take n (now kinds)) ≡ n) ⌝ }
+    requires { ⌜ (n ≤ 8) × (n ≤ length (now kinds)) ⌝ }
     ensures { λ r. ⌜ r ≡ twice (take n (now (kinds .entry))) ⌝ }
 {
     let mut found = false;
-    let mut i = 0;
+    let mut i = 1;
     'pairs: while i < n {
-        let mut j = i + 1;
-        while j < n {
+        let mut j = 0;
+        while j < i {
             if kinds[i] == kinds[j] {
                 found = true;
                 break 'pairs;

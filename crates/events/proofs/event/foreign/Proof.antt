@@ -12,8 +12,7 @@ use Rattle.net.specs.Held.{netIn}
 use Rattle.net.proofs.Scan.{any-turn, any-found, any-end}
 use Rattle.replay.specs.Plain.{kindsOf}
 use Rattle.replay.specs.Calls.{stateAt}
-use Rattle.events.proofs.Asked.{words-few, few-objects, read-in, kinds-length, kind-read, kind-in, kinds-kept}
-use Rattle.events.proofs.Loops.{set-more}
+use Rattle.events.proofs.Asked.{set-more, words-few, few-objects, read-in, kinds-length, kind-read, kind-in, kinds-kept}
 use Rattle.events.proofs.event.foreign.Statement.{statement}
 use Rattle.events.proofs.event.foreign.Tie as tie
 

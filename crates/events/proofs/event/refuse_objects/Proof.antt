@@ -12,7 +12,7 @@ use Rattle.net.specs.Net.{takes}
 use Rattle.replay.specs.Plain.{kindsOf}
 use Rattle.replay.specs.Calls.{stateAt}
 use Rattle.events.specs.Answers.{Known}
-use Rattle.events.proofs.Asked.{placed-at, few-objects, kinds-length}
+use Rattle.events.proofs.Asked.{placed-at, few-objects, kinds-fit}
 use borrow.Author.Needs.{needs}
 use Rattle.events.proofs.event.refuse_objects.Statement.{statement}
 use Rattle.events.proofs.event.refuse_objects.Tie as tie
@@ -45,7 +45,7 @@ returns-2 : tie.Need-returns-2
 returns-2 c = rw (t5-not (c .before .before .before), ← c .before .foreign .ensures .0, c .if2 .taken)
 
 two-of-kind-requires : tie.Need-two-of-kind-requires
-two-of-kind-requires c κs = let s = c .before .before .before .before .before .before .before .before in (few-objects _ _ _ _ _ (s .pre), ap length (c .before .before .foreign .ensures .1 (c .before .if2 .left)) ∙ kinds-length _ _ _ _ _ (known (c .before .before .before .before)))
+two-of-kind-requires c κs = let s = c .before .before .before .before .before .before .before .before in (few-objects _ _ _ _ _ (s .pre), kinds-fit _ _ _ _ _ (known (c .before .before .before .before)) _ (c .before .before .foreign .ensures .1 (c .before .if2 .left)))
 
 returns-3 : tie.Need-returns-3
 returns-3 c = rw (t5-not (c .before .before .before .before .before .before), t6-not (c .before .before .before), ← t7 (c .before), c .if3 .taken)

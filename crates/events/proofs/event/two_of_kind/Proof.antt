@@ -1,37 +1,32 @@
--- `two_of_kind` meets its contract: number i is compared with each behind it, and the pairs are left at the first that are equal. Assumes nothing.
-use borrow.Author.Needs.{needs}
-use Prim.Native.Nat.{_+_, _≤_, _<_, _-_}
-use mathlib.Core.Bool.{true, false}
+-- The kinds passed differ from those before them, and the one at i from the first j; the pairs are left at the first that are equal. Assumes nothing.
+use Prim.Native.Nat.{ℕ, _-_, _≤_, _<_}
+use mathlib.Core.Bool.{false}
 use mathlib.Core.Path.{_≡_, refl, _∙_}
 use native.Mathlib.Omega.{arith}
-use lib.ListN.{getD, drop, take}
-use lib.Dec.{eqb}
-use Rattle.words.specs.Lists.{pick, any, twice}
-use Rattle.events.proofs.Loops.{twice-turn, twice-end, pairs-turn, pairs-found, pairs-end}
+use lib.ListN.{getD}
+use borrow.Author.Count.{below-more}
+use borrow.Author.Needs.{needs}
+use Rattle.events.proofs.PairLaws.{Apart, pair-found, pair-none}
 use Rattle.events.proofs.event.two_of_kind.Statement.{statement}
 use Rattle.events.proofs.event.two_of_kind.Tie as tie
 
 abbrev Inv-loop : tie.InvT-loop
-Inv-loop kinds n found₀ i j₀ found j = (i < n) × (j ≤ n) × (found ≡ false)
-    × (pick (any (eqb (getD (take n kinds) i 0)) (drop j (take n kinds))) true (twice (drop (i + 1) (take n kinds))) ≡ twice (take n kinds))
+Inv-loop kinds n found₀ i j₀ found j = (i < n) × (j ≤ i) × (found ≡ false) × Apart kinds i × ((b : ℕ) → b < j → getD kinds i 0 ≡ getD kinds b 0 → ⊥)
 
 abbrev μ-loop : tie.MeasureT-loop
-μ-loop kinds n found₀ i j₀ found j = n - j
+μ-loop kinds n found₀ i j₀ found j = i - j
 
 abbrev Inv-pairs : tie.InvT-pairs
-Inv-pairs kinds n found₀ i₀ found i = (i ≤ n) × (found ≡ false) × (twice (drop i (take n kinds)) ≡ twice (take n kinds))
+Inv-pairs kinds n found₀ i₀ found i = (found ≡ false) × Apart kinds i
 
 abbrev μ-pairs : tie.MeasureT-pairs
 μ-pairs kinds n found₀ i₀ found i = n - i
 
 pairs-holds : tie.Need-pairs-holds Inv-loop μ-loop Inv-pairs μ-pairs
-pairs-holds c = (omega arith, refl, refl)
-
-add-j : tie.Need-add-j Inv-loop μ-loop Inv-pairs μ-pairs
-add-j c = search needs
+pairs-holds c = (refl, λ a h b l e. omega arith)
 
 loop-holds : tie.Need-loop-holds Inv-loop μ-loop Inv-pairs μ-pairs
-loop-holds c = let l = c .before .pairs in let s = c .before .before in (c .pairs-test .taken, omega arith, l .inv .1, twice-turn (take (s .args .n) (s .args .kinds .now)) (l .i) (omega (arith, s .pre .1, c .pairs-test .taken)) ∙ l .inv .2)
+loop-holds c = let p = c .before .pairs in (c .pairs-test .taken, omega arith, p .inv .0, p .inv .1, λ b l e. omega arith)
 
 mul-if1 : tie.Need-mul-if1 Inv-loop μ-loop Inv-pairs μ-pairs
 mul-if1 c = search needs
@@ -45,15 +40,14 @@ mul-if1-2 c = search needs
 element-copy-out-if1-2 : tie.Need-element-copy-out-if1-2 Inv-loop μ-loop Inv-pairs μ-pairs
 element-copy-out-if1-2 c = search needs
 
-add-j-2 : tie.Need-add-j-2 Inv-loop μ-loop Inv-pairs μ-pairs
-add-j-2 c = search needs
+add-j : tie.Need-add-j Inv-loop μ-loop Inv-pairs μ-pairs
+add-j c = search needs
 
 loop-less : tie.Need-loop-less Inv-loop μ-loop Inv-pairs μ-pairs
 loop-less c = search needs
 
 loop-again : tie.Need-loop-again Inv-loop μ-loop Inv-pairs μ-pairs
-loop-again c = let l = c .before .before .before .before .loop in let p = c .before .before .before .before .before .before in let s = p .before .args in
-    (l .inv .0, omega arith, l .inv .2, pairs-turn (s .n) (s .kinds .now) (p .before .pre .1) _ (p .pairs .i) (l .j) (l .inv .0) (c .before .before .before .loop-test .taken) (c .if1 .left) ∙ l .inv .3)
+loop-again c = let l = c .before .before .before .before .loop in (l .inv .0, omega arith, l .inv .2, l .inv .3, below-more _ _ (l .inv .4) (c .if1 .left))
 
 add-i : tie.Need-add-i Inv-loop μ-loop Inv-pairs μ-pairs
 add-i c = search needs
@@ -62,16 +56,15 @@ pairs-less : tie.Need-pairs-less Inv-loop μ-loop Inv-pairs μ-pairs
 pairs-less c = search needs
 
 pairs-again : tie.Need-pairs-again Inv-loop μ-loop Inv-pairs μ-pairs
-pairs-again c = let l = c .before .loop in let p = c .before .before .before in let s = p .before .args in
-    (omega arith, l .inv .2, pairs-end (s .n) (s .kinds .now) (p .before .pre .1) _ (p .pairs .i) (l .j) (l .inv .0) (c .loop-test .left) ∙ l .inv .3)
+pairs-again c = let l = c .before .loop in (l .inv .2, below-more _ _ (l .inv .3) (λ b h. l .inv .4 b (omega (arith, c .loop-test .left))))
 
 returns : tie.Need-returns Inv-loop μ-loop Inv-pairs μ-pairs
-returns c = let l = c .before .pairs in let s = c .before .before in
-    l .inv .1 ∙ twice-end (take (s .args .n) (s .args .kinds .now)) (l .i) (omega (arith, s .pre .1, c .pairs-test .left)) ∙ l .inv .2
+returns c =
+    let p = c .before .pairs in let s = c .before .before in
+    p .inv .0 ∙ pair-none (s .args .kinds .now) (s .args .n) (omega arith) (λ a h. p .inv .1 a (omega (arith, c .pairs-test .left)))
 
 returns-2 : tie.Need-returns-2 Inv-loop μ-loop Inv-pairs μ-pairs
-returns-2 c = let l = c .before .before .before .before .loop in let p = c .before .before .before .before .before .before in let s = p .before .args in
-    pairs-found (s .n) (s .kinds .now) (p .before .pre .1) _ (p .pairs .i) (l .j) (l .inv .0) (c .before .before .before .loop-test .taken) (c .if1 .taken) ∙ l .inv .3
+returns-2 c = let s = c .before .before .before .before .before .before .before in pair-found (s .args .kinds .now) (s .args .n) (omega arith) (c .before .before .before .before .before .before .pairs .i) (c .before .before .before .before .loop .j) (c .before .before .before .before .loop .inv .0) (c .before .before .before .loop-test .taken) (c .if1 .taken)
 
 pub two-of-kind-spec : {M : Type 1} → statement M
 two-of-kind-spec =
@@ -82,13 +75,12 @@ two-of-kind-spec =
     Inv-pairs
     μ-pairs
     pairs-holds
-    add-j
     loop-holds
     mul-if1
     element-copy-out-if1
     mul-if1-2
     element-copy-out-if1-2
-    add-j-2
+    add-j
     loop-less
     loop-again
     add-i

@@ -3,7 +3,7 @@ use borrow.Author.Needs.{needs}
 use Prim.Native.Nat.{ℕ, _≤_, _-_}
 use mathlib.Core.Path.{_≡_, refl, _∙_}
 use native.Mathlib.Omega.{arith}
-use lib.ListN.{length, drop}
+use lib.ListN.{length, getD, drop}
 use lib.Dec.{leb}
 use borrow.Author.Tests.{le-leb, lt-leb}
 use Rattle.words.specs.Lists.{any}
@@ -30,7 +30,7 @@ cast-if1 : tie.Need-cast-if1 Inv-loop μ-loop
 cast-if1 c = omega (arith, c .shared-slice-known .given (c .before .before .loop .i))
 
 returns : tie.Need-returns Inv-loop μ-loop
-returns c = let l = c .before .before .before .loop in any-found (λ (o : ℕ). leb (c .before .before .before .before .args .objects) o) _ 0 (l .i) (c .before .before .loop-test .taken) (le-leb _ _ (c .if1 .taken)) ∙ l .inv .1
+returns c = let l = c .before .before .before .loop in any-found (λ (o : ℕ). leb (c .before .before .before .before .args .objects) o) _ 0 (l .i) (c .before .before .loop-test .taken) (le-leb (c .before .before .before .before .args .objects) (getD (c .before .before .before .before .args .objs .now) (l .i) 0) (omega arith)) ∙ l .inv .1
 
 add-i : tie.Need-add-i Inv-loop μ-loop
 add-i c = search needs
@@ -39,7 +39,7 @@ loop-less : tie.Need-loop-less Inv-loop μ-loop
 loop-less c = search needs
 
 loop-again : tie.Need-loop-again Inv-loop μ-loop
-loop-again c = let l = c .before .before .before .loop in (omega arith, any-turn (λ (o : ℕ). leb (c .before .before .before .before .args .objects) o) _ 0 (l .i) (c .before .before .loop-test .taken) (lt-leb _ _ (c .if1 .left)) ∙ l .inv .1)
+loop-again c = let l = c .before .before .before .loop in (omega arith, any-turn (λ (o : ℕ). leb (c .before .before .before .before .args .objects) o) _ 0 (l .i) (c .before .before .loop-test .taken) (lt-leb (c .before .before .before .before .args .objects) (getD (c .before .before .before .before .args .objs .now) (l .i) 0) (omega arith)) ∙ l .inv .1)
 
 returns-2 : tie.Need-returns-2 Inv-loop μ-loop
 returns-2 c = let l = c .before .loop in any-end (λ (o : ℕ). leb (c .before .before .args .objects) o) _ 0 (l .i) (c .loop-test .left) ∙ l .inv .1

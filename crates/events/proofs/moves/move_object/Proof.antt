@@ -1,5 +1,8 @@
 -- `move_object` meets its contract: the object is judged by the place on which it stands. Assumes nothing.
-use Rattle.events.specs.Moves.{moveWords}
+use Prim.Native.Nat.{ℕ}
+use mathlib.Core.Path.{sym, subst}
+use Rattle.words.specs.Words.{wordsOf}
+use Rattle.events.specs.Moves.{moveWords, CanJump}
 use Rattle.events.proofs.Walk.{length-jump}
 use borrow.Author.Needs.{needs}
 use Rattle.events.proofs.moves.move_object.Statement.{statement}
@@ -15,7 +18,7 @@ cast-at : tie.Need-cast-at
 cast-at c = search needs
 
 count-jump-requires : tie.Need-count-jump-requires
-count-jump-requires c κs = let s = c .before .before .before .before .before in rw (c .before .get-word .ensures) (s .pre .jump)
+count-jump-requires c κs = let a = c .before .before .before .before .before .args in subst (λ (p : ℕ). CanJump (a .lay) (a .own) p (a .inp) (wordsOf (a .rec .now))) (sym (c .before .get-word .ensures)) (c .before .before .before .before .before .pre .jump)
 
 put-word-requires : tie.Need-put-word-requires
 put-word-requires c κs = let s = c .before .before .before .before .before .before .before .before .before in rw (c .before .before .before .count-jump .ensures, length-jump) (s .pre .place)

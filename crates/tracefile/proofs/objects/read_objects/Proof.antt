@@ -1,5 +1,4 @@
 -- Eight objects, each read by itself, are the objects over eight zeros. Assumes nothing.
-use mathlib.Core.Path.{_∙_}
 use borrow.Author.Needs.{needs}
 use Rattle.tracefile.proofs.ObjectLaws.{eight-slots}
 use Rattle.tracefile.proofs.objects.read_objects.Statement.{statement}
@@ -30,7 +29,9 @@ object-at-requires-8 : tie.Need-object-at-requires-8
 object-at-requires-8 c κs = search needs
 
 returns : tie.Need-returns
-returns c = (cc) ∙ eight-slots (c .before .before .before .before .before .before .before .before .before .args .window .now) (c .before .before .before .before .before .before .before .before .before .args .n) (c .before .before .before .before .before .before .before .before .before .pre .0)
+returns c =
+    rw (c .before .before .before .before .before .before .before .object-at .ensures, c .before .before .before .before .before .before .object-at2 .ensures, c .before .before .before .before .before .object-at3 .ensures, c .before .before .before .before .object-at4 .ensures, c .before .before .before .object-at5 .ensures, c .before .before .object-at6 .ensures, c .before .object-at7 .ensures, c .object-at8 .ensures)
+    (eight-slots (c .before .before .before .before .before .before .before .before .before .args .window .now) (c .before .before .before .before .before .before .before .before .before .args .n) (c .before .before .before .before .before .before .before .before .before .pre .0))
 
 pub read-objects-spec : {M : Type 1} → statement M
 read-objects-spec =

@@ -4,6 +4,7 @@ use mathlib.Core.Bool.{true}
 use mathlib.Core.Path.{_≡_, sym, _∙_}
 use native.Mathlib.Omega.{arith}
 use lib.Dec.{eqb}
+use lib.ListN.{length}
 use borrow.Author.Tests.{lt-ltb, le-ltb, eq-eqb, ne-eqb}
 use Rattle.words.specs.Words.{word}
 use Rattle.tracefile.specs.Trace.{contentsOf}
@@ -24,7 +25,7 @@ whole c = eq-eqb (word (c .before .before .before .before .before .before .befor
 
 returns : tie.Need-returns
 unfolding contentsOf
-returns c = with-contents-code (c .before .before .args .head .now) (rw (lt-ltb _ _ (c .if1 .taken)))
+returns c = with-contents-code (c .before .before .args .head .now) (rw (lt-ltb (length (c .before .before .args .head .now)) 16 (omega arith)))
 
 word-at-requires : tie.Need-word-at-requires
 word-at-requires c κs = search needs
