@@ -155,12 +155,12 @@ pub fn load(table: &[u8]) -> Result<Net, u32> {
 // ---------------------------------------------------------------- the replay in memory
 
 pub struct Replay {
-    objects: usize,
-    kind: [u8; MAX_OBJECTS],
-    place: [u8; MAX_OBJECTS],
     closed: bool,
     events: u32,
     closing_jumps: u32,
+    objects: usize,
+    kind: [u8; MAX_OBJECTS],
+    place: [u8; MAX_OBJECTS],
     fired: [u32; 64],
     jumps: [u32; 64],
     /// by place left * 64 + place reached

@@ -9,12 +9,16 @@
 #[allow(dead_code)]
 #[path = "baseline.rs"]
 mod baseline;
+#[allow(dead_code)]
+#[path = "../tests/exports.rs"]
+mod exports;
 #[path = "gen.rs"]
 mod gen;
 #[allow(dead_code)]
 #[path = "../tests/oracle.rs"]
 mod oracle;
 
+use exports::{conform_event, conform_restore, conform_start};
 use gen::Input;
 use std::fs::{self, File};
 use std::io::Read;
@@ -22,18 +26,8 @@ use std::path::{Path, PathBuf};
 use std::process::{Command, Stdio};
 
 extern "C" {
-    fn conform_start(
-        table: *const u8,
-        table_len: usize,
-        objects: *const u8,
-        objects_len: usize,
-        trail: *mut u8,
-        trail_len: usize,
-    ) -> u64;
-    fn conform_event(trail: *mut u8, trail_len: usize, activity: u32, objects: *const u8, objects_len: usize) -> u64;
-    fn conform_restore(record: *const u8, record_len: usize, trail: *mut u8, trail_len: usize) -> u64;
-    /// For measuring alone: takes up the trail once, applies the events of a trail file's body one after the other with the
-    /// library's event function, and gives how many were accepted.
+    /// For measuring alone, in the archive libbench.a: takes up the trail once, applies the events of a trail file's body one
+    /// after the other with the library's event function, and gives how many were accepted.
     fn conform_bench_events(trail: *mut u8, trail_len: usize, events: *const u8, events_len: usize) -> u64;
 }
 
@@ -123,6 +117,14 @@ fn time(work: impl FnOnce()) -> f64 {
     now() - start
 }
 
+/// The time of work that must come to `want`.
+fn time_of(name: &str, want: u64, work: impl FnOnce() -> u64) -> f64 {
+    let mut got = 0;
+    let spent = time(|| got = work());
+    demand(got == want, &format!("{name} refuses what it should take"));
+    spent
+}
+
 fn print_head(title: &str) {
     println!("\n{title}");
     println!("{:<34}{:>10}{:>10}{:>12}{:>10}{:>8}", "", "library", "(least)", "baseline", "(least)", "ratio");
@@ -148,25 +150,20 @@ fn print_row(name: &str, unit: &str, times: &[Times; 2]) {
 fn events(input: &Input, repetitions: usize) -> [Times; 2] {
     let fresh = start(input);
     let (mut ours, mut theirs) = (fresh.clone(), fresh.clone());
+    let body = &input.events;
+    let want = input.event_count as u64;
     let times = measure(
         repetitions,
         input.event_count,
         || {
             ours.copy_from_slice(&fresh);
-            let mut accepted = 0;
-            let spent = time(|| {
-                accepted =
-                    unsafe { conform_bench_events(ours.as_mut_ptr(), ours.len(), input.events.as_ptr(), input.events.len()) }
-            });
-            demand(accepted == input.event_count as u64, "the library refuses events");
-            spent
+            time_of("the library", want, || unsafe {
+                conform_bench_events(ours.as_mut_ptr(), ours.len(), body.as_ptr(), body.len())
+            })
         },
         || {
             theirs.copy_from_slice(&fresh);
-            let mut accepted = 0;
-            let spent = time(|| accepted = baseline::bench_events(&mut theirs, &input.events));
-            demand(accepted == input.event_count as u64, "the baseline refuses events");
-            spent
+            time_of("the baseline", want, || baseline::bench_events(&mut theirs, body))
         },
     );
     demand(ours == theirs && ours != fresh, "library and baseline differ after the same events");
@@ -180,32 +177,23 @@ fn client_calls(input: &Input, repetitions: usize) -> [Times; 2] {
     let mut fresh = start(input);
     baseline::bench_events(&mut fresh, &input.events[..input.starts[first]]);
     let (mut ours, mut theirs) = (fresh.clone(), fresh.clone());
+    let last = || (first..input.event_count).map(|i| input.event(i));
     let times = measure(
         repetitions,
         calls,
         || {
             ours.copy_from_slice(&fresh);
-            let mut refused = 0;
-            let spent = time(|| {
-                for i in first..input.event_count {
-                    let (activity, objects) = input.event(i);
-                    refused |= unsafe { conform_event(ours.as_mut_ptr(), ours.len(), activity, objects.as_ptr(), objects.len()) };
-                }
-            });
-            demand(refused == 0, "the library refuses a call");
-            spent
+            time_of("the library", 0, || {
+                last().fold(0, |refused, (activity, objects)| {
+                    refused | unsafe { conform_event(ours.as_mut_ptr(), ours.len(), activity, objects.as_ptr(), objects.len()) }
+                })
+            })
         },
         || {
             theirs.copy_from_slice(&fresh);
-            let mut refused = 0;
-            let spent = time(|| {
-                for i in first..input.event_count {
-                    let (activity, objects) = input.event(i);
-                    refused |= baseline::conform_event(&mut theirs, activity, objects);
-                }
-            });
-            demand(refused == 0, "the baseline refuses a call");
-            spent
+            time_of("the baseline", 0, || {
+                last().fold(0, |refused, (activity, objects)| refused | baseline::conform_event(&mut theirs, activity, objects))
+            })
         },
     );
     demand(ours == theirs && ours != fresh, "library and baseline differ after the same calls");
@@ -218,29 +206,18 @@ fn restores(input: &Input, repetitions: usize) -> [Times; 2] {
     baseline::bench_events(&mut record, &input.events);
     let calls = 1000;
     let (mut ours, mut theirs) = (vec![0; record.len()], vec![0; record.len()]);
-    let want = (record.len() as u64) << 32;
+    let taken = (record.len() as u64) << 32;
+    let (record_at, len) = (record.as_ptr(), record.len());
     let times = measure(
         repetitions,
         calls,
         || {
-            let mut same = true;
-            let spent = time(|| {
-                for _ in 0..calls {
-                    same &= unsafe { conform_restore(record.as_ptr(), record.len(), ours.as_mut_ptr(), ours.len()) } == want;
-                }
-            });
-            demand(same, "the library refuses a record");
-            spent
+            let mut restored = || unsafe { conform_restore(record_at, len, ours.as_mut_ptr(), ours.len()) } == taken;
+            time_of("the library", calls as u64, || (0..calls).filter(|_| restored()).count() as u64)
         },
         || {
-            let mut same = true;
-            let spent = time(|| {
-                for _ in 0..calls {
-                    same &= baseline::conform_restore(&record, &mut theirs) == want;
-                }
-            });
-            demand(same, "the baseline refuses a record");
-            spent
+            let mut restored = || baseline::conform_restore(&record, &mut theirs) == taken;
+            time_of("the baseline", calls as u64, || (0..calls).filter(|_| restored()).count() as u64)
         },
     );
     demand(ours == record && theirs == record, "a restored record differs");

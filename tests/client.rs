@@ -5,43 +5,19 @@
 //! Round i is made from the seed SEED + i alone, so a round that fails is tried again with `client_test 1 THAT_SEED`.
 //! Ends with status 1 at the first difference and says where it is.
 
+mod exports;
 #[allow(dead_code)]
-#[path = "oracle.rs"]
 mod oracle;
 #[allow(dead_code)]
-#[path = "random.rs"]
 mod random;
 
+use exports::*;
 use oracle::{bytes_of, client as expected, table_m, PlainRun, Replay, MAX_CHECKPOINT, MAX_EVENTS, REGISTER_M, REPORT_T4};
 use random::Rng;
 use std::collections::BTreeMap;
 
 const DEFAULT_ROUNDS: u64 = 300;
 const DEFAULT_SEED: u64 = 20_210_521;
-
-extern "C" {
-    fn conform_load(table: *const u8, table_len: usize) -> u64;
-    fn conform_start(
-        table: *const u8,
-        table_len: usize,
-        objects: *const u8,
-        objects_len: usize,
-        trail: *mut u8,
-        trail_len: usize,
-    ) -> u64;
-    fn conform_event(trail: *mut u8, trail_len: usize, activity: u32, objects: *const u8, objects_len: usize) -> u64;
-    fn conform_close(trail: *mut u8, trail_len: usize) -> u64;
-    fn conform_restore(record: *const u8, record_len: usize, trail: *mut u8, trail_len: usize) -> u64;
-    fn conform_save(trail: *const u8, trail_len: usize, record: *mut u8, record_len: usize) -> u64;
-    fn conform_trail_line(trail: *const u8, trail_len: usize, line: *mut u8, line_len: usize) -> u64;
-    fn conform_place_line(trail: *const u8, trail_len: usize, place: u32, line: *mut u8, line_len: usize) -> u64;
-    fn conform_act_line(trail: *const u8, trail_len: usize, activity: u32, line: *mut u8, line_len: usize) -> u64;
-    fn conform_jump_line(trail: *const u8, trail_len: usize, from: u32, to: u32, line: *mut u8, line_len: usize) -> u64;
-    fn conform_trail_counts(trail: *const u8, trail_len: usize, counts: *mut u8, counts_len: usize) -> u64;
-    fn conform_place_counts(trail: *const u8, trail_len: usize, place: u32, counts: *mut u8, counts_len: usize) -> u64;
-    fn conform_act_counts(trail: *const u8, trail_len: usize, activity: u32, counts: *mut u8, counts_len: usize) -> u64;
-    fn conform_jump_count(trail: *const u8, trail_len: usize, from: u32, to: u32, counts: *mut u8, counts_len: usize) -> u64;
-}
 
 // ---------------------------------------------------------------- lent memory with guards
 
@@ -113,6 +89,16 @@ macro_rules! demand {
         let holds = $holds;
         $check.demand(holds, $message);
     }};
+}
+
+/// For each call that writes a line or counts, a method that compares it with the oracle's function of the same name.
+macro_rules! writes {
+    ($($name:ident($($number:ident),*) = $library:ident;)*) => {
+        $(fn $name(&mut self, trail: &[u8], $($number: u32,)* room: usize) -> u64 {
+            let library = |t, n, w, m| unsafe { $library(t, n, $($number,)* w, m) };
+            self.write(stringify!($name), trail, &[$($number),*], room, library, |t, w| expected::$name(t, $($number,)* w))
+        })*
+    };
 }
 
 /// A lent part: its name, the memory, and what it should hold before and after the call.
@@ -188,20 +174,28 @@ impl Check {
         self.answer("close", got, want, &[("trail", &t, &before, trail)])
     }
 
+    /// A call that copies one part into another.
+    fn copy(
+        &mut self,
+        [call, from_name, to_name]: [&'static str; 3],
+        from: &[u8],
+        to: &mut Vec<u8>,
+        library: unsafe extern "C" fn(*const u8, usize, *mut u8, usize) -> u64,
+        oracle: fn(&[u8], &mut [u8]) -> u64,
+    ) -> u64 {
+        let (f, mut t) = (Lent::of(from, self.shift), Lent::of(to, self.shift / 2));
+        let before = to.clone();
+        let got = unsafe { library(f.ptr(), f.len, t.mut_ptr(), t.len) };
+        let want = oracle(from, to);
+        self.answer(call, got, want, &[(from_name, &f, from, from), (to_name, &t, &before, to)])
+    }
+
     fn restore(&mut self, record: &[u8], trail: &mut Vec<u8>) -> u64 {
-        let (r, mut t) = (Lent::of(record, self.shift), Lent::of(trail, self.shift / 2));
-        let before = trail.clone();
-        let got = unsafe { conform_restore(r.ptr(), r.len, t.mut_ptr(), t.len) };
-        let want = expected::restore(record, trail);
-        self.answer("restore", got, want, &[("record", &r, record, record), ("trail", &t, &before, trail)])
+        self.copy(["restore", "record", "trail"], record, trail, conform_restore, expected::restore)
     }
 
     fn save(&mut self, trail: &[u8], record: &mut Vec<u8>) -> u64 {
-        let (t, mut r) = (Lent::of(trail, self.shift), Lent::of(record, self.shift / 2));
-        let before = record.clone();
-        let got = unsafe { conform_save(t.ptr(), t.len, r.mut_ptr(), r.len) };
-        let want = expected::save(trail, record);
-        self.answer("save", got, want, &[("trail", &t, trail, trail), ("record", &r, &before, record)])
+        self.copy(["save", "trail", "record"], trail, record, conform_save, expected::save)
     }
 
     /// A call that writes a line or counts into `room` lent bytes.
@@ -226,44 +220,15 @@ impl Check {
         self.answer(call, got, want, &lent)
     }
 
-    fn trail_line(&mut self, trail: &[u8], room: usize) -> u64 {
-        let library = |t, n, w, m| unsafe { conform_trail_line(t, n, w, m) };
-        self.write("trail_line", trail, &[], room, library, expected::trail_line)
-    }
-
-    fn place_line(&mut self, trail: &[u8], place: u32, room: usize) -> u64 {
-        let library = |t, n, w, m| unsafe { conform_place_line(t, n, place, w, m) };
-        self.write("place_line", trail, &[place], room, library, |t, w| expected::place_line(t, place, w))
-    }
-
-    fn act_line(&mut self, trail: &[u8], activity: u32, room: usize) -> u64 {
-        let library = |t, n, w, m| unsafe { conform_act_line(t, n, activity, w, m) };
-        self.write("act_line", trail, &[activity], room, library, |t, w| expected::act_line(t, activity, w))
-    }
-
-    fn jump_line(&mut self, trail: &[u8], from: u32, to: u32, room: usize) -> u64 {
-        let library = |t, n, w, m| unsafe { conform_jump_line(t, n, from, to, w, m) };
-        self.write("jump_line", trail, &[from, to], room, library, |t, w| expected::jump_line(t, from, to, w))
-    }
-
-    fn trail_counts(&mut self, trail: &[u8], room: usize) -> u64 {
-        let library = |t, n, w, m| unsafe { conform_trail_counts(t, n, w, m) };
-        self.write("trail_counts", trail, &[], room, library, expected::trail_counts)
-    }
-
-    fn place_counts(&mut self, trail: &[u8], place: u32, room: usize) -> u64 {
-        let library = |t, n, w, m| unsafe { conform_place_counts(t, n, place, w, m) };
-        self.write("place_counts", trail, &[place], room, library, |t, w| expected::place_counts(t, place, w))
-    }
-
-    fn act_counts(&mut self, trail: &[u8], activity: u32, room: usize) -> u64 {
-        let library = |t, n, w, m| unsafe { conform_act_counts(t, n, activity, w, m) };
-        self.write("act_counts", trail, &[activity], room, library, |t, w| expected::act_counts(t, activity, w))
-    }
-
-    fn jump_count(&mut self, trail: &[u8], from: u32, to: u32, room: usize) -> u64 {
-        let library = |t, n, w, m| unsafe { conform_jump_count(t, n, from, to, w, m) };
-        self.write("jump_count", trail, &[from, to], room, library, |t, w| expected::jump_count(t, from, to, w))
+    writes! {
+        trail_line() = conform_trail_line;
+        place_line(place) = conform_place_line;
+        act_line(activity) = conform_act_line;
+        jump_line(from, to) = conform_jump_line;
+        trail_counts() = conform_trail_counts;
+        place_counts(place) = conform_place_counts;
+        act_counts(activity) = conform_act_counts;
+        jump_count(from, to) = conform_jump_count;
     }
 
     fn demand(&self, holds: bool, message: &str) {
@@ -658,6 +623,17 @@ fn fixed_cases(c: &mut Check) {
     demand!(c, own == trail, "a refused event changed the trail");
 }
 
+/// The parts of a run: what a round tries, and how.
+type Round = fn(&mut Check, &mut Rng);
+const PARTS: [(&str, Round); 6] = [
+    ("tables", round_tables),
+    ("registers", round_registers),
+    ("checkpoints", round_checkpoints),
+    ("each byte", round_every_byte),
+    ("short lists of calls", |c, rng| (0..20).for_each(|_| round_calls(c, rng, false))),
+    ("a long list of calls", |c, rng| round_calls(c, rng, true)),
+];
+
 /// Every refusal that a call can give, to be met at least once in a run of the usual length.
 fn expected_answers() -> Vec<(&'static str, u32, u32)> {
     let mut all: Vec<(&'static str, u32, u32)> = (0..=9).map(|n| ("load", n, 0)).collect();
@@ -700,34 +676,9 @@ fn main() {
         c.seed = seed.wrapping_add(round);
         let mut rng = Rng::new(c.seed);
         // which part a round is follows from its seed, so that one round can be tried alone
-        match c.seed % 6 {
-            0 => {
-                c.what = "tables".to_string();
-                round_tables(&mut c, &mut rng);
-            }
-            1 => {
-                c.what = "registers".to_string();
-                round_registers(&mut c, &mut rng);
-            }
-            2 => {
-                c.what = "checkpoints".to_string();
-                round_checkpoints(&mut c, &mut rng);
-            }
-            3 => {
-                c.what = "each byte".to_string();
-                round_every_byte(&mut c, &mut rng);
-            }
-            4 => {
-                c.what = "short lists of calls".to_string();
-                for _ in 0..20 {
-                    round_calls(&mut c, &mut rng, false);
-                }
-            }
-            _ => {
-                c.what = "a long list of calls".to_string();
-                round_calls(&mut c, &mut rng, true);
-            }
-        }
+        let (what, part) = PARTS[(c.seed % 6) as usize];
+        c.what = what.to_string();
+        part(&mut c, &mut rng);
     }
     let mut line = String::new();
     for (&(call, code, second), count) in &c.answers {

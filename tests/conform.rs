@@ -7,10 +7,8 @@
 //! at the first difference, leaves the table and the trail of that case in a folder and says where.
 
 #[allow(dead_code)]
-#[path = "oracle.rs"]
 mod oracle;
 #[allow(dead_code)]
-#[path = "random.rs"]
 mod random;
 
 use oracle::{bytes_of, file_of, table_m, trace_file, Net, REGISTER_M, REPORT_T4};
