@@ -23,7 +23,8 @@ use Rattle.tracefile.specs.declared.Contents.the-variants.{Bodies}
 use Rattle.tracefile.specs.Parts.{openCode}
 use Rattle.tracefile.specs.Trace.{contentsTests, contentsOf}
 use Rattle.tracefile.proofs.OpenLaws.{contents-bodies}
-use Rattle.conform.specs.Trail.{Tabled, Follows}
+use Rattle.following.specs.Follows.{Follows}
+use Rattle.conform.specs.Tabled.{Tabled}
 
 -- a table that is loaded
 pub loaded-tabled : (table before t : List ℕ) → length before ≡ 1684 → loadCode table ≡ 0 → t ≡ afterLoad table before → Tabled t table

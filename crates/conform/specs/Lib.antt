@@ -1,1 +1,1 @@
-pub mod Trail
+pub mod Tabled

@@ -1,15 +1,11 @@
 // The program: it reads the route table `route.tab` and a trail from standard input, and writes the report (the sheet), or the first
 // refusal, to standard output. What it reads and writes is tested; proved is that it is safe and ends on every input.
 
-mod follow;
-mod input;
-mod output;
-
-use crate::follow::follow;
-use crate::input::read_file;
-use crate::input::read_some;
-use crate::input::skip;
-use crate::output::refuse;
+use following::follow;
+use following::input::read_file;
+use following::input::read_some;
+use following::input::skip;
+use printing::refuse;
 use starting::StartAnswer;
 use tracefile::Contents;
 use tracefile::open::opening_refusal;
@@ -22,7 +18,7 @@ ghost use Rattle.words.specs.Words.{wordsOf};
 ghost use Rattle.net.specs.Table.{netOf};
 ghost use Rattle.replay.specs.Plain.{registerCode};
 ghost use Rattle.starting.specs.Startable.{Startable};
-ghost use Rattle.conform.specs.Trail.{Tabled};
+ghost use Rattle.conform.specs.Tabled.{Tabled};
 
 // Room for the longest record.
 fn record_buffer() -> [u8; 29844]

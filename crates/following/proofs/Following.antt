@@ -1,0 +1,92 @@
+-- A trail that is followed: what the reader may rely on, and what an event that it hands out does. Assumes nothing.
+use Prim.Native.Nat.{ℕ, _+_, _≤_, _<_}
+use mathlib.Core.Bool.{Bool, true, false}
+use mathlib.Core.Path.{_≡_, refl, ap, sym, subst, _∙_}
+use mathlib.Core.List.{List}
+use native.Mathlib.Omega.{arith}
+use lib.ListN.{length, replicate}
+use lib.Dec.{eqb}
+use lib.Seq.{length-sets}
+use Rattle.words.specs.Lists.{pick, All}
+use Rattle.words.specs.Refusals.{first}
+use Rattle.words.specs.Words.{word, wordsOf}
+use Rattle.words.proofs.Lists.{All-at, clash}
+use Rattle.net.specs.Net.{Net}
+use Rattle.net.specs.Held.{netIn}
+use Rattle.replay.specs.Plain.{Event, event, refusal}
+use Rattle.replay.specs.State.{State, acceptS}
+use Rattle.replay.specs.Calls.{stateAt, askCode, askBytes}
+use Rattle.replay.proofs.Accepted.{accepted}
+use Rattle.replay.proofs.RecordLaws.{ready-loaded, ready-sound}
+use Rattle.events.proofs.Kept.{ready-asked, state-taken}
+use Rattle.events.proofs.Taken.{code-is}
+use Rattle.tracefile.specs.declared.Answer.{Answer}
+use Rattle.tracefile.specs.declared.Found.the-variants as found
+use Rattle.tracefile.specs.Claims.{Handed}
+use Rattle.tracefile.specs.Parts.{Known}
+use Rattle.tracefile.specs.Answers.{nothing, unless}
+use Rattle.tracefile.specs.Trace.{objectsAt, endTests, endFound, eventFound, readTests, readFrom}
+use Rattle.tracefile.proofs.HandedLaws.{handed}
+use Rattle.following.specs.Follows.{Follows, Stepped}
+use Rattle.following.specs.declared.Spot.{Spot}
+use Rattle.following.specs.declared.Outcome.{Outcome}
+
+module _ (t rec register : List ℕ) (n : ℕ) (F : Follows t rec register n) where
+  pub kinds-known : Known (netIn t) (wordsOf register)
+  kinds-known = record {
+    kind = λ o h. All-at (λ (k : ℕ). k < netIn t .kinds) 0 (wordsOf register)
+        (subst (All (λ (k : ℕ). k < netIn t .kinds)) (F .kinds) (ready-sound t rec (F .ready) .kinds)) o h;
+  }
+
+  pub events-few : n ≤ 1000000
+  events-few = omega (arith, ready-sound t rec (F .ready) .events, F .events)
+
+  -- an event that is not refused
+  module _ (e : Event) (z : refusal (netIn t) (wordsOf register) 0 n e ≡ 0) where
+    pub event-code : askCode rec (event e) ≡ 0
+    event-code = sym (code-is t rec (F .ready) (event e)) ∙ rw (F .kinds, F .still-open, F .events) z
+
+    pub event-room : n < 1000000
+    event-room = accepted (netIn t) (wordsOf register) 0 n e z .few
+
+    after : stateAt (askBytes rec (event e)) ≡ acceptS (netIn t) (stateAt rec) (event e)
+    after = state-taken t rec (F .ready) (event e) event-code
+
+    pub event-follows : Follows t (askBytes rec (event e)) register (n + 1)
+    event-follows = record {
+      ready = ready-asked t rec (F .ready) (event e);
+      kinds = ap (λ (d : State). d .kinds) after ∙ F .kinds;
+      still-open = ap (λ (d : State). d .closed) after ∙ F .still-open;
+      events = omega (arith, ap (λ (d : State). d .events) after, F .events);
+    }
+
+  -- an event that was read
+  pub read-handed : (window : List ℕ) (body at : ℕ) (r : Answer) → r ≡ readFrom (netIn t) (wordsOf register) n window 0 body at → r .found ≡ found.Event
+      → Handed (netIn t) (wordsOf register) n (length window) 0 body at r
+  read-handed window body at r q f =
+      subst (Handed (netIn t) (wordsOf register) n (length window) 0 body at) (sym q)
+      (handed (netIn t) (ready-loaded t rec (F .ready)) (wordsOf register) n window 0 body at (sym (ap (λ (a : Answer). a .found) q) ∙ f))
+
+-- an answer holds eight objects
+unless-eight : (c : ℕ) (a : Answer) (at : ℕ) → length (a .event .objects) ≡ 8 → length (unless c a at .event .objects) ≡ 8
+unless-eight c a at e = go (eqb c 0)
+  where
+    go : (x : Bool) → length (pick x a (nothing (found.Refused c) at) .event .objects) ≡ 8
+    go true = e
+    go false = refl
+
+pub read-eight : (N : Net) (ks : List ℕ) (n : ℕ) (w : List ℕ) (from body at : ℕ) → length (readFrom N ks n w from body at .event .objects) ≡ 8
+unfolding readFrom
+read-eight N ks n w from body at = go (eqb at body)
+  where
+    go : (x : Bool) → length (pick x (endFound w from at) (unless (first (readTests N ks n w from body at)) (eventFound w from at) at) .event .objects) ≡ 8
+    go true = unless-eight (first (endTests w from)) (nothing found.End at) at refl
+    go false = unless-eight (first (readTests N ks n w from body at)) (eventFound w from at) at (length-sets (replicate 8 0) 0 (objectsAt w (from + 8) (word w (from + 4))))
+
+-- where it is over nothing has changed
+pub over-follows : (t rec register : List ℕ) (size : ℕ) (spot : Spot) (r : Outcome) → Follows t rec register (spot .accepted) → spot .from ≤ size → r .spot ≡ spot → r .over ≡ true
+    → Follows t rec register (r .spot .accepted) × Stepped size (spot .accepted) r
+over-follows t rec register size spot r F h e o = (
+  subst (λ (p : Spot). Follows t rec register (p .accepted)) (sym e) F,
+  record { inside = subst (λ (p : Spot). p .from ≤ size) (sym e) h; more = λ f. clash (sym o ∙ f) },
+)

@@ -1,0 +1,145 @@
+-- An event that was read is accepted, so that one event more is; else nothing changes. Assumes nothing.
+use Prim.Native.Nat.{ℕ, _+_, _-_, _*_, _≤_, _<_}
+use mathlib.Core.Path.{_≡_, ap, sym, subst, _∙_}
+use mathlib.Core.List.{List}
+use native.Mathlib.Omega.{arith}
+use lib.ListN.{length, take, drop, length-take, length-drop}
+use Rattle.words.specs.Words.{wordsOf}
+use Rattle.net.specs.Held.{netIn}
+use Rattle.replay.specs.Plain.{refusal}
+use Rattle.tracefile.specs.declared.Answer.{Answer}
+use Rattle.following.specs.Follows.{Follows}
+use Rattle.following.proofs.Following.{kinds-known, event-code, event-room, event-follows, read-handed, read-eight, over-follows}
+use borrow.Author.Needs.{needs}
+use Rattle.following.proofs.step.Statement.{statement}
+use Rattle.following.proofs.step.Tie as tie
+
+-- what the event handed out is
+record Handed-at (c : tie.After-wide) : Type 0 where
+  taken :
+      let s = c .before .before .before .before .before .before .before .before .before .before in
+      let e = c .before .before .before .before .before .read-window .result .event in
+      refusal (netIn (s .args .t .now)) (wordsOf (s .args .register .now)) 0 (s .args .spot .accepted) (record { act = e .activity; objs = take (c .wide .result) (e .objects) }) ≡ 0
+  room : c .before .before .before .before .before .before .before .before .before .before .args .spot .accepted < 1000000
+  few : c .wide .result ≤ 8
+  eight : length (c .before .before .before .before .before .read-window .result .event .objects) ≡ 8
+  there : c .before .before .before .before .before .before .before .before .before .before .args .spot .from + 8 + 4 * c .wide .result ≤ length (c .before .before .before .before .before .before .before .before .before .before .args .window .now)
+
+handed-at : (c : tie.After-wide) → Handed-at c
+handed-at c =
+    let s = c .before .before .before .before .before .before .before .before .before .before in
+    let r = c .before .before .before .before .before .read-window in
+    let e = c .before .before .before .before .before .read-window .result .event in
+    let n : ℕ = length (s .args .window .now) - s .args .spot .from in
+    let w : List ℕ = take n (drop (s .args .spot .from) (s .args .window .now)) in
+    let h = read-handed (s .args .t .now) (s .args .rec .now) (s .args .register .now) (s .args .spot .accepted) (s .pre .0) w (s .args .body) (s .args .spot .at) (r .result) (r .ensures .0) (c .before .before .before .enum-told2 .given .1) in
+    record {
+      taken = subst (λ (k : ℕ). refusal (netIn (s .args .t .now)) (wordsOf (s .args .register .now)) 0 (s .args .spot .accepted) (record { act = e .activity; objs = take k (e .objects) }) ≡ 0) (sym (c .wide .ensures)) (h .taken);
+      room = event-room (s .args .t .now) (s .args .rec .now) (s .args .register .now) (s .args .spot .accepted) (s .pre .0) (record { act = e .activity; objs = take (e .count) (e .objects) }) (h .taken);
+      few = omega (arith, h .few, c .wide .ensures);
+      eight = ap (λ (a : Answer). length (a .event .objects)) (r .ensures .0) ∙ read-eight (netIn (s .args .t .now)) (wordsOf (s .args .register .now)) (s .args .spot .accepted) w 0 (s .args .body) (s .args .spot .at);
+      there = omega (arith, h .there, c .wide .ensures, length-take n (drop (s .args .spot .from) (s .args .window .now)), length-drop (s .args .spot .from) (s .args .window .now), s .pre .1);
+    }
+
+sub-read-window : tie.Need-sub-read-window
+sub-read-window c = search needs
+
+part-read-window-start : tie.Need-part-read-window-start
+part-read-window-start c = search needs
+
+part-read-window-end : tie.Need-part-read-window-end
+part-read-window-end c = search needs
+
+read-window-requires : tie.Need-read-window-requires
+read-window-requires c κs =
+    let s = c .before .before .before .before in
+    (s .pre .0 .ready .held, kinds-known (s .args .t .now) (s .args .rec .now) (s .args .register .now) (s .args .spot .accepted) (s .pre .0))
+
+enum-told : tie.Need-enum-told
+enum-told c = search needs
+
+stopped-requires : tie.Need-stopped-requires
+stopped-requires c κs = search needs
+
+enum-known-found : tie.Need-enum-known-found
+enum-known-found c = search needs
+
+stopped-requires-2 : tie.Need-stopped-requires-2
+stopped-requires-2 c κs = search needs
+
+enum-told-2 : tie.Need-enum-told-2
+enum-told-2 c = search needs
+
+wide-requires : tie.Need-wide-requires
+wide-requires c κs = search needs
+
+array-share-prefix-objects : tie.Need-array-share-prefix-objects
+array-share-prefix-objects c = let h = handed-at (c .before .before) in omega (arith, h .few, h .eight)
+
+slice-aggregate-apply : tie.Need-slice-aggregate-apply
+slice-aggregate-apply c = let h = handed-at (c .before .before .before) in simp length-take (omega (arith, h .few, h .eight))
+
+apply-requires : tie.Need-apply-requires
+apply-requires c κs =
+    let s = c .before .before .before .before .before .before .before .before .before .before .before .before .before in
+    (s .pre .0 .ready, event-code (s .args .t .now) (s .args .rec .now) (s .args .register .now) (s .args .spot .accepted) (s .pre .0) _ (handed-at (c .before .before .before) .taken))
+
+add-t28 : tie.Need-add-t28
+add-t28 c = search needs
+
+mul-t29 : tie.Need-mul-t29
+mul-t29 c = search needs
+
+add-t30 : tie.Need-add-t30
+add-t30 c = search needs
+
+add-t31 : tie.Need-add-t31
+add-t31 c = omega (arith, handed-at (c .before .before .before .before .before .before) .room)
+
+returns : tie.Need-returns
+returns c =
+    let s = c .before .before .before .before .before .before .before .before in
+    over-follows (s .args .t .now) (s .args .rec .now) (s .args .register .now) (length (s .args .window .now)) (s .args .spot) (c .stopped .result) (s .pre .0) (s .pre .1) (c .stopped .ensures .0) (c .stopped .ensures .1)
+
+returns-2 : tie.Need-returns-2
+returns-2 c =
+    let s = c .before .before .before .before .before .before .before .before .before in
+    over-follows (s .args .t .now) (s .args .rec .now) (s .args .register .now) (length (s .args .window .now)) (s .args .spot) (c .stopped2 .result) (s .pre .0) (s .pre .1) (c .stopped2 .ensures .0) (c .stopped2 .ensures .1)
+
+same-length : tie.Need-same-length
+same-length c = search needs
+
+returns-3 : tie.Need-returns-3
+returns-3 c =
+    let s = c .before .before .before .before .before .before .before .before .before .before .before .before .before .before .before .before in
+    let h = handed-at (c .before .before .before .before .before .before) in (
+      subst (λ (b : List ℕ). Follows (s .args .t .now) b (s .args .register .now) (s .args .spot .accepted + 1)) (sym (c .before .before .apply .ensures))
+          (event-follows (s .args .t .now) (s .args .rec .now) (s .args .register .now) (s .args .spot .accepted) (s .pre .0) _ (h .taken)),
+      record { inside = h .there; more = λ f. omega arith },
+    )
+
+pub step-spec : {M : Type 1} → statement M
+step-spec =
+    tie.close
+    (tie.spec
+    sub-read-window
+    part-read-window-start
+    part-read-window-end
+    read-window-requires
+    enum-told
+    stopped-requires
+    enum-known-found
+    stopped-requires-2
+    enum-told-2
+    wide-requires
+    array-share-prefix-objects
+    slice-aggregate-apply
+    apply-requires
+    add-t28
+    mul-t29
+    add-t30
+    add-t31
+    returns
+    returns-2
+    same-length
+    returns-3)

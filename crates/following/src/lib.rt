@@ -1,0 +1,177 @@
+// The events of a trail from standard input, read through a window and carried out one by one; then the close and the report.
+// Above `tracefile` and `events`; `conform` uses it once a trail is started.
+
+use crate::input::refill;
+use printing::print;
+use printing::refuse;
+use tracefile::Cursor;
+use tracefile::Found;
+use words::wide;
+ghost use mathlib.Core.Bool.{true};
+ghost use mathlib.Core.Path.{_≡_};
+ghost use Prim.Native.Nat.{_≤_};
+ghost use lib.ListN.{length};
+ghost use Rattle.following.specs.Follows.{Follows, Stepped};
+
+pub mod input;
+
+// Where the reading stands: byte `from` of the window is byte `at` of the events body, and `accepted` events are accepted.
+pub struct Spot {
+    pub from: usize,
+    pub at: usize,
+    pub accepted: u32,
+}
+
+// Once it is over, `code` is the number of the refusal, or 0 at the end of the body.
+pub struct Outcome {
+    pub spot: Spot,
+    pub over: bool,
+    pub code: u32,
+}
+
+fn stopped(spot: Spot, code: u32) -> Outcome
+    ensures { λ r. ⌜ (r .spot ≡ spot) × (r .over ≡ true) ⌝ }
+{
+    Outcome {
+        spot,
+        over: true,
+        code,
+    }
+}
+
+// Reads one event at the spot and carries it out.
+fn step(
+    rec: &mut [u8],
+    t: &[u32; 1684],
+    register: &[u8],
+    body: usize,
+    window: &[u8],
+    spot: Spot,
+) -> Outcome
+    requires { ⌜ Follows (now t) (now rec) (now register) (spot .accepted) ⌝ }
+    requires { ⌜ spot .from ≤ length (now window) ⌝ }
+    ensures { λ r. ⌜ Follows (now (t .entry)) (now (rec .exit)) (now (register .entry)) (r .spot .accepted) ⌝ }
+    ensures { λ r. ⌜ Stepped (length (now (window .entry))) (spot .accepted) r ⌝ }
+{
+    let from = spot.from;
+    let accepted = spot.accepted;
+    let cursor = Cursor { at: spot.at };
+    let answer = cursor.read_window(&window[from..], body, accepted, register, t);
+    let found = answer.found;
+    match found {
+        Found::End => stopped(spot, 0),
+        Found::Refused(code) => stopped(spot, code),
+        Found::Event => {
+            let event = answer.event;
+            let next = answer.next;
+            let n = wide(event.count);
+            let act = event.activity;
+            let objects = event.objects;
+            events::event::apply(rec, t, act, &objects[..n]);
+            Outcome {
+                spot: Spot {
+                    from: from + 8 + 4 * n,
+                    at: next.at,
+                    accepted: accepted + 1,
+                },
+                over: false,
+                code: 0,
+            }
+        }
+    }
+}
+
+// Reads and carries out events until it is over or fewer than `least` bytes of the window are left.
+fn steps(
+    rec: &mut [u8],
+    t: &[u32; 1684],
+    register: &[u8],
+    body: usize,
+    window: &[u8],
+    least: usize,
+    start: Spot,
+) -> Outcome
+    requires { ⌜ Follows (now t) (now rec) (now register) (start .accepted) ⌝ }
+    requires { ⌜ start .from ≤ length (now window) ⌝ }
+    ensures { λ r. ⌜ Follows (now (t .entry)) (now (rec .exit)) (now (register .entry)) (r .spot .accepted) ⌝ }
+    ensures { λ r. ⌜ r .spot .from ≤ length (now (window .entry)) ⌝ }
+{
+    let mut spot = start;
+    while least <= window.len() - spot.from {
+        let s = step(rec, t, register, body, window, spot);
+        if s.over {
+            return s;
+        }
+        spot = s.spot;
+    }
+    Outcome {
+        spot,
+        over: false,
+        code: 0,
+    }
+}
+
+// Fills the window and carries out its events: all of them where the input has ended, else as long as a whole event is sure
+// to be in the window.
+fn turn(
+    rec: &mut [u8],
+    t: &[u32; 1684],
+    register: &[u8],
+    body: usize,
+    buf: &mut [u8],
+    spot: Spot,
+) -> Outcome
+    requires { ⌜ Follows (now t) (now rec) (now register) (spot .accepted) ⌝ }
+    requires { ⌜ spot .from ≤ length (now buf) ⌝ }
+    ensures { λ r. ⌜ Follows (now (t .entry)) (now (rec .exit)) (now (register .entry)) (r .spot .accepted) ⌝ }
+    ensures { λ r. ⌜ r .spot .from ≤ length (now (buf .entry)) ⌝ }
+{
+    let n = refill(buf, spot.from);
+    let start = Spot {
+        from: 0,
+        at: spot.at,
+        accepted: spot.accepted,
+    };
+    if n < buf.len() {
+        return steps(rec, t, register, body, &buf[..n], 0, start);
+    }
+    steps(rec, t, register, body, buf, 40, start)
+}
+
+// All events, by turns that are counted: each but the last carries out one event or more.
+fn all_events(rec: &mut [u8], t: &[u32; 1684], register: &[u8], body: usize) -> Outcome
+    requires { ⌜ Follows (now t) (now rec) (now register) 0 ⌝ }
+    ensures { λ r. ⌜ Follows (now (t .entry)) (now (rec .exit)) (now (register .entry)) (r .spot .accepted) ⌝ }
+{
+    let mut buf = io::large_buffer();
+    let mut spot = Spot {
+        from: 65536,
+        at: 0,
+        accepted: 0,
+    };
+    let mut turns: u32 = 1000001;
+    while turns > 0 {
+        turns -= 1;
+        let s = turn(rec, t, register, body, &mut buf, spot);
+        if s.over {
+            return s;
+        }
+        spot = s.spot;
+    }
+    stopped(spot, 0)
+}
+
+// Follows a trail that is started to its end: the report, or the first refusal.
+pub fn follow(rec: &mut [u8], t: &[u32; 1684], register: &[u8], body: usize)
+    requires { ⌜ Follows (now t) (now rec) (now register) 0 ⌝ }
+{
+    let s = all_events(rec, t, register, body);
+    let code = s.code;
+    if code != 0 {
+        let spot = s.spot;
+        refuse(code, spot.accepted);
+        return;
+    }
+    events::close::close(rec, t);
+    print(rec, t);
+}
