@@ -1,6 +1,5 @@
 pub mod Asked
 pub mod Kept
-pub mod PairLaws
 pub mod Sinks
 pub mod Steps
 pub mod Taken

@@ -2,6 +2,7 @@
 
 use crate::moves::add_one;
 use crate::moves::move_object;
+use replay::kinds::two_of_kind;
 use replay::layout::Layout;
 use replay::layout::read_layout;
 ghost use mathlib.Core.Path.{_≡_};
@@ -63,7 +64,7 @@ fn foreign(
     lay: Layout,
     act: usize,
     objs: &[u32],
-    kinds: &mut [usize; 8],
+    kinds: &mut [u32; 8],
 ) -> bool
     requires { ⌜ Known (now t) (now rec) lay act (now objs) ⌝ }
     requires { ⌜ length (now kinds) ≡ 8 ⌝ }
@@ -71,35 +72,14 @@ fn foreign(
 {
     let mut i = 0;
     while i < objs.len() {
-        let k = words::get_word(rec, lay.register + (objs[i] as usize)) as usize;
-        if !net::look::takes_kind(t, act, k) {
+        let k = words::get_word(rec, lay.register + (objs[i] as usize));
+        if !net::look::takes_kind(t, act, k as usize) {
             return true;
         }
         kinds[i] = k;
         i += 1;
     }
     false
-}
-
-// 27: two of the first n kinds are the same. Each is compared with those before it.
-fn two_of_kind(kinds: &[usize; 8], n: usize) -> bool
-    requires { ⌜ (n ≤ 8) × (n ≤ length (now kinds)) ⌝ }
-    ensures { λ r. ⌜ r ≡ twice (take n (now (kinds .entry))) ⌝ }
-{
-    let mut found = false;
-    let mut i = 1;
-    'pairs: while i < n {
-        let mut j = 0;
-        while j < i {
-            if kinds[i] == kinds[j] {
-                found = true;
-                break 'pairs;
-            }
-            j += 1;
-        }
-        i += 1;
-    }
-    found
 }
 
 // 25 to 27: the tests of an event's objects.
@@ -110,7 +90,7 @@ fn refuse_objects(rec: &[u8], t: &[u32; 1684], lay: Layout, act: usize, objs: &[
     if unknown(lay.objects, objs) {
         return EventAnswer::Object;
     }
-    let mut kinds = [0usize; 8];
+    let mut kinds = [0u32; 8];
     if foreign(rec, t, lay, act, objs, &mut kinds) {
         return EventAnswer::Kind;
     }

@@ -3,6 +3,7 @@ pub mod Agree
 pub mod Encode
 pub mod Interleave
 pub mod Keep
+mod PairLaws
 pub mod Permit
 pub mod RecordLaws
 pub mod Rows

@@ -1,6 +1,7 @@
 // The objects of an event: reading them, and the tests 25 to 27.
 
 use net::look::takes_kind;
+use replay::kinds::two_of_kind;
 use words::get_word;
 use words::wide;
 use words::word_at;
@@ -91,27 +92,6 @@ fn take_kinds(
     code
 }
 
-// 27: two of the first n kinds are the same. Each is compared with those before it.
-fn repeated_kind(kinds: &[u32; 8], n: usize) -> bool
-    requires { ⌜ (n ≤ 8) × (length (now kinds) ≡ 8) ⌝ }
-    ensures { λ r. ⌜ r ≡ twice (take n (now (kinds .entry))) ⌝ }
-{
-    let mut found = false;
-    let mut i: usize = 1;
-    'pairs: while i < n {
-        let mut j: usize = 0;
-        while j < i {
-            if kinds[i] == kinds[j] {
-                found = true;
-                break 'pairs;
-            }
-            j += 1;
-        }
-        i += 1;
-    }
-    found
-}
-
 // 25, 26, 27 or 0, by the n objects from byte 8 of the window on.
 pub fn refuse_objects(window: &[u8], n: usize, act: usize, register: &[u8], t: &[u32; 1684]) -> u32
     requires { ⌜ Held (now t) ⌝ }
@@ -124,7 +104,7 @@ pub fn refuse_objects(window: &[u8], n: usize, act: usize, register: &[u8], t: &
     if code != 0 {
         return code;
     }
-    if repeated_kind(&kinds, n) {
+    if two_of_kind(&kinds, n) {
         return 27;
     }
     0

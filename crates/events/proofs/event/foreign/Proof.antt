@@ -51,8 +51,8 @@ add-get-word c = let s = c .before .before .before .before .before .before in
 get-word-requires : tie.Need-get-word-requires Inv-loop μ-loop
 get-word-requires c κs = let s = c .before .before .before .before .before .before in read-in _ _ _ _ _ (s .pre .0) (c .before .before .before .loop .i) (c .before .before .loop-test .taken)
 
-cast-k : tie.Need-cast-k Inv-loop μ-loop
-cast-k c = search needs
+cast-takes-kind : tie.Need-cast-takes-kind Inv-loop μ-loop
+cast-takes-kind c = search needs
 
 takes-kind-requires : tie.Need-takes-kind-requires Inv-loop μ-loop
 takes-kind-requires c κs = let s = c .before .before .before .before .before .before .before in
@@ -100,7 +100,7 @@ foreign-spec =
     cast-get-word
     add-get-word
     get-word-requires
-    cast-k
+    cast-takes-kind
     takes-kind-requires
     returns
     mul-kinds

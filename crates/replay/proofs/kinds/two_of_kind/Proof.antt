@@ -6,9 +6,9 @@ use native.Mathlib.Omega.{arith}
 use lib.ListN.{getD}
 use borrow.Author.Count.{below-more}
 use borrow.Author.Needs.{needs}
-use Rattle.tracefile.proofs.PairLaws.{Apart, pair-found, pair-none}
-use Rattle.tracefile.proofs.objects.repeated_kind.Statement.{statement}
-use Rattle.tracefile.proofs.objects.repeated_kind.Tie as tie
+use Rattle.replay.proofs.PairLaws.{Apart, pair-found, pair-none}
+use Rattle.replay.proofs.kinds.two_of_kind.Statement.{statement}
+use Rattle.replay.proofs.kinds.two_of_kind.Tie as tie
 
 abbrev Inv-loop : tie.InvT-loop
 Inv-loop kinds n found₀ i j₀ found j = (i < n) × (j ≤ i) × (found ≡ false) × Apart kinds i × ((b : ℕ) → b < j → getD kinds i 0 ≡ getD kinds b 0 → ⊥)
@@ -66,8 +66,8 @@ returns c =
 returns-2 : tie.Need-returns-2 Inv-loop μ-loop Inv-pairs μ-pairs
 returns-2 c = let s = c .before .before .before .before .before .before .before in pair-found (s .args .kinds .now) (s .args .n) (omega arith) (c .before .before .before .before .before .before .pairs .i) (c .before .before .before .before .loop .j) (c .before .before .before .before .loop .inv .0) (c .before .before .before .loop-test .taken) (c .if1 .taken)
 
-pub repeated-kind-spec : {M : Type 1} → statement M
-repeated-kind-spec =
+pub two-of-kind-spec : {M : Type 1} → statement M
+two-of-kind-spec =
     tie.close
     (tie.spec
     Inv-loop
