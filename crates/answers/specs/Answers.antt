@@ -1,9 +1,7 @@
--- Answers as numbers, and what a call on a lent trail answers and leaves.
+-- Answers as numbers.
 use Prim.Native.Nat.{ℕ, _+_, _*_}
-use mathlib.Core.List.{List}
 use lib.Dec.{eqb}
 use Rattle.words.specs.Lists.{pick}
-use Rattle.checkpoint.specs.Restore.{restoreCode, restoreSecond}
 
 -- an answer: the refusal's number, 0 where the call was taken, in the low 32 bits; a second number in the high 32 bits
 abbrev pub packed : ℕ → ℕ → ℕ
@@ -12,11 +10,3 @@ packed code high = code + 4294967296 * high
 -- the answer of a call that writes n bytes where it is taken
 abbrev pub wrote : ℕ → ℕ → ℕ
 wrote code n = packed code (pick (eqb code 0) n 0)
-
--- a call on a lent trail b: 41 to 47, with the second number of 43 and 44, come before the call's own answer
-abbrev pub onTrail : List ℕ → ℕ → ℕ
-onTrail b own = pick (eqb (restoreCode b) 0) own (packed (restoreCode b) (restoreSecond b))
-
--- what a call on a lent trail b leaves of some lent bytes: the call's own, or the bytes as they were
-abbrev pub leftBy : List ℕ → List ℕ → List ℕ → List ℕ
-leftBy b own lent = pick (eqb (restoreCode b) 0) own lent

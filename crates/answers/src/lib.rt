@@ -1,5 +1,5 @@
 // Answers as numbers: the refusal's number in the low 32 bits, 0 where a call was taken, and a second number above it.
-// Above the libraries whose answers they are. A lent trail is checked here, and an event's objects are read from bytes.
+// Above the libraries whose answers they are.
 
 ghost use mathlib.Core.Path.{_≡_};
 ghost use Prim.Native.Nat.{_≤_};
@@ -8,9 +8,6 @@ ghost use Rattle.events.specs.Answers.{eventCode, closeCode};
 ghost use Rattle.checkpoint.specs.Answers.{restoreAnswerCode, restoreAnswerSecond, resumedCode, resumedSecond, savedCode};
 ghost use Rattle.lines.specs.Answer as lines;
 ghost use Rattle.answers.specs.Answers.{packed};
-
-pub mod check;
-pub mod objects;
 
 pub fn pack(code: u32, high: u32) -> u64
     ensures { λ r. ⌜ r ≡ packed code high ⌝ }
@@ -53,7 +50,7 @@ pub fn close_code(r: events::close::CloseAnswer) -> u32
     }
 }
 
-fn check_code(r: checkpoint::RestoreAnswer) -> u32
+pub fn check_code(r: checkpoint::RestoreAnswer) -> u32
     ensures { λ n. ⌜ n ≡ restoreAnswerCode r ⌝ }
 {
     match r {
@@ -69,7 +66,7 @@ fn check_code(r: checkpoint::RestoreAnswer) -> u32
 }
 
 // The second number of 43 and 44.
-fn check_second(r: checkpoint::RestoreAnswer) -> u32
+pub fn check_second(r: checkpoint::RestoreAnswer) -> u32
     ensures { λ n. ⌜ n ≡ restoreAnswerSecond r ⌝ }
 {
     match r {

@@ -1,7 +1,7 @@
 // For measuring alone: the events of a trail file's body on a trail that is taken up once. No part of the marking client.
 
-use answers::check::checked;
 use answers::event_code;
+use lent::check::checked;
 use words::get_word;
 use words::wide;
 ghost use mathlib.Core.Path.{_≡_};

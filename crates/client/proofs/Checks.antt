@@ -15,8 +15,8 @@ use Rattle.checkpoint.specs.Take.{takeTests, takeCode}
 use Rattle.lines.specs.Answer.{codeOf, sizeOf, Writes}
 use Rattle.lines.specs.declared.LineAnswer.{LineAnswer}
 use Rattle.answers.specs.Answers.{packed, wrote}
-use Rattle.answers.specs.Checked.{Checked}
-use Rattle.answers.proofs.Checks.{stop-answer, stop-bytes, go-answer, go-bytes}
+use Rattle.lent.specs.Checked.{Checked}
+use Rattle.lent.proofs.Checks.{stop-answer, stop-bytes, go-answer, go-bytes}
 use Rattle.client.specs.Client.{askAnswer, askLeaves, restoreAnswer, saveAnswer, saveLeaves, writeAnswer, writeLeaves}
 
 module _ (b w : List ℕ) (r : ℕ) (C : Checked b w r) where

@@ -13,7 +13,8 @@ use Rattle.checkpoint.specs.Restore.{restoreSecond}
 use Rattle.checkpoint.specs.Calls.{saveCode, saveBytes}
 use Rattle.checkpoint.specs.Take.{takeCode}
 use Rattle.lines.specs.Answer.{lineCode}
-use Rattle.answers.specs.Answers.{packed, wrote, onTrail, leftBy}
+use Rattle.answers.specs.Answers.{packed, wrote}
+use Rattle.lent.specs.OnTrail.{onTrail, leftBy}
 
 -- loading
 unfoldable pub loadAnswer : List ℕ → ℕ

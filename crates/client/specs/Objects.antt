@@ -9,8 +9,9 @@ use Rattle.words.specs.Refusals.{first}
 use Rattle.words.specs.Words.{wordsOf}
 use Rattle.replay.specs.Calls.{netAt, stateAt}
 use Rattle.events.specs.Answers.{askEvent}
-use Rattle.answers.specs.Answers.{packed, onTrail}
-use Rattle.answers.specs.Objects.{objectsIn}
+use Rattle.answers.specs.Answers.{packed}
+use Rattle.lent.specs.OnTrail.{onTrail}
+use Rattle.lent.specs.Objects.{objectsIn}
 use Rattle.client.specs.Client.{askAnswer, askLeaves}
 
 -- 21 to 24, for an event of activity a with a list that cannot have one row for each arc

@@ -2,11 +2,11 @@
 
 use answers::close_code;
 use answers::event_code;
-use answers::objects::count_objects;
-use answers::objects::object_at;
 use answers::pack;
 use answers::saved_code;
 use answers::start_code;
+use lent::objects::count_objects;
+use lent::objects::object_at;
 ghost use mathlib.Core.Path.{_≡_};
 ghost use Prim.Native.Nat.{_≤_};
 ghost use lib.ListN.{length};
@@ -16,7 +16,7 @@ ghost use Rattle.starting.specs.Startable.{Startable};
 ghost use Rattle.events.specs.Answers.{askEvent, askClose};
 ghost use Rattle.checkpoint.specs.Calls.{saveCode, saveBytes};
 ghost use Rattle.answers.specs.Answers.{packed, wrote};
-ghost use Rattle.answers.specs.Objects.{objectsIn};
+ghost use Rattle.lent.specs.Objects.{objectsIn};
 ghost use Rattle.client.specs.Client.{startAnswer, startLeaves};
 ghost use Rattle.client.specs.Loads.{Loads};
 

@@ -6,8 +6,8 @@ use lib.ListN.{length, take}
 use Rattle.replay.specs.Calls.{askCode, askBytes}
 use Rattle.events.specs.Answers.{askEvent}
 use Rattle.answers.specs.Answers.{packed}
-use Rattle.answers.specs.Objects.{objectsIn}
-use Rattle.answers.proofs.ObjectLaws.{nine-read}
+use Rattle.lent.specs.Objects.{objectsIn}
+use Rattle.lent.proofs.ObjectLaws.{nine-read}
 use borrow.Author.Needs.{needs}
 use Rattle.client.proofs.calls.put_event.Statement.{statement}
 use Rattle.client.proofs.calls.put_event.Tie as tie

@@ -19,8 +19,9 @@ use Rattle.replay.specs.Ready.{Ready}
 use Rattle.checkpoint.specs.Restore.{restoreTests, restoreCode, restoreSecond}
 use Rattle.checkpoint.specs.Take.{checkedWords}
 use Rattle.checkpoint.proofs.Restored.{restore-intact, restored-loads}
-use Rattle.answers.specs.Answers.{packed, onTrail, leftBy}
-use Rattle.answers.specs.Checked.{Checked}
+use Rattle.answers.specs.Answers.{packed}
+use Rattle.lent.specs.OnTrail.{onTrail, leftBy}
+use Rattle.lent.specs.Checked.{Checked}
 
 -- a trail that is taken: it has no second number and at most 29,844 bytes, and the words of its check hold its net
 module _ (b : List ℕ) (z : restoreCode b ≡ 0) where

@@ -9,7 +9,7 @@ use borrow.Author.Tests.{eq-eqb, ne-eqb, le-leb, lt-leb}
 use Rattle.words.specs.Words.{wordsOf}
 use Rattle.words.proofs.Words.{length-words}
 use Rattle.words.proofs.Lists.{zeros-at}
-use Rattle.answers.specs.Objects.{objectsIn}
+use Rattle.lent.specs.Objects.{objectsIn}
 
 module _ (s : List ℕ) where
   pub rows-in : length s % 4 ≡ 0 → length s ≤ 32 → objectsIn s ≡ wordsOf s

@@ -1,11 +1,11 @@
 -- The check's two numbers, and what its words hold. Assumes nothing.
 use mathlib.Core.Path.{ap₂, _∙_}
 use native.Mathlib.Omega.{arith}
 use Rattle.answers.specs.Answers.{packed}
-use Rattle.answers.proofs.Checks.{checked-by}
+use Rattle.lent.proofs.Checks.{checked-by}
 use borrow.Author.Needs.{needs}
-use Rattle.answers.proofs.check.checked.Statement.{statement}
-use Rattle.answers.proofs.check.checked.Tie as tie
+use Rattle.lent.proofs.check.checked.Statement.{statement}
+use Rattle.lent.proofs.check.checked.Tie as tie
 
 check-requires : tie.Need-check-requires
 check-requires c κs = search needs

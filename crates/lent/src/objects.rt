@@ -3,7 +3,7 @@
 ghost use mathlib.Core.Path.{_≡_};
 ghost use Prim.Native.Nat.{_≤_};
 ghost use lib.ListN.{length, getD};
-ghost use Rattle.answers.specs.Objects.{objectsIn};
+ghost use Rattle.lent.specs.Objects.{objectsIn};
 
 // How many objects the list has: one a row, and nine where it has no whole rows or over eight.
 pub fn count_objects(objects: &[u8]) -> usize

@@ -1,11 +1,11 @@
 // The check of a trail that is lent.
 
-use crate::check_code;
-use crate::check_second;
-use crate::pack;
+use answers::check_code;
+use answers::check_second;
+use answers::pack;
 ghost use mathlib.Core.Path.{_≡_};
 ghost use lib.ListN.{length};
-ghost use Rattle.answers.specs.Checked.{Checked};
+ghost use Rattle.lent.specs.Checked.{Checked};
 
 // 41 to 47 with the second number of 43 and 44. Where none applies it is 0, and the words t hold the trail's net.
 pub fn checked(trail: &[u8], t: &mut [u32; 1684]) -> u64

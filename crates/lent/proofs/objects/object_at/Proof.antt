@@ -4,10 +4,10 @@ use mathlib.Core.List.{List}
 use Prim.Native.Nat.{ℕ}
 use native.Mathlib.Omega.{arith}
 use lib.ListN.{length, getD, List·getD-eq-default}
-use Rattle.answers.specs.Objects.{objectsIn}
-use Rattle.answers.proofs.ObjectLaws.{nine-zeros, fewer}
-use Rattle.answers.proofs.objects.object_at.Statement.{statement}
-use Rattle.answers.proofs.objects.object_at.Tie as tie
+use Rattle.lent.specs.Objects.{objectsIn}
+use Rattle.lent.proofs.ObjectLaws.{nine-zeros, fewer}
+use Rattle.lent.proofs.objects.object_at.Statement.{statement}
+use Rattle.lent.proofs.objects.object_at.Tie as tie
 
 returns : tie.Need-returns
 returns c = let s = c .before .before in

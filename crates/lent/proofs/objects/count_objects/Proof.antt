@@ -2,9 +2,9 @@
 use mathlib.Core.Path.{sym, ap}
 use native.Mathlib.Omega.{arith}
 use lib.ListN.{length}
-use Rattle.answers.proofs.ObjectLaws.{no-rows, many-rows, count-rows}
-use Rattle.answers.proofs.objects.count_objects.Statement.{statement}
-use Rattle.answers.proofs.objects.count_objects.Tie as tie
+use Rattle.lent.proofs.ObjectLaws.{no-rows, many-rows, count-rows}
+use Rattle.lent.proofs.objects.count_objects.Statement.{statement}
+use Rattle.lent.proofs.objects.count_objects.Tie as tie
 
 returns : tie.Need-returns
 returns c = (sym (ap length (no-rows (c .before .args .objects .now) (c .if1 .taken))), omega arith)

@@ -1,0 +1,3 @@
+pub mod OnTrail
+pub mod Checked
+pub mod Objects
