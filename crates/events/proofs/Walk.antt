@@ -4,10 +4,11 @@ use mathlib.Core.Bool.{Bool, true, false}
 use mathlib.Core.Path.{_≡_, refl, ap, _∙_}
 use mathlib.Core.List.{List}
 use native.Mathlib.Omega.{arith}
+use native.Mathlib.Numerals.{add-one}
 use native.Mathlib.Decide.{ℕ-discrete}
 use lib.Arith.{digits-lt}
 use lib.ListN.{length, getD, set, length-set}
-use lib.Seq.{getD-set-same, getD-set-other}
+use lib.Seq.{getD-set-same, getD-set-other, set-getD}
 use lib.Dec.{eqb}
 use Rattle.words.specs.Lists.{pick}
 use Rattle.net.specs.Net.{Net}
@@ -16,6 +17,16 @@ use Rattle.events.specs.Moves.{placeAt, pairAt, jumpWords, moveWords, Ca
 use Rattle.replay.specs.declared.layout.Layout.{Layout}
 use Rattle.replay.proofs.Encode.{recordWords}
 use Rattle.replay.proofs.RecordLaws.{Placed, placed-same, withPlaces, withPairs, withJumps, withClosing, record-size, record-few, get-kind, get-place, get-pair, get-jumps, get-closing, put-place, put-pair, put-jumps, put-closing}
+
+-- a count raised by 0 or by 1, and two of them raised by the same
+raised : (same : Bool) (w : List ℕ) (i : ℕ) → set w i (getD w i 0 + pick same 0 1) ≡ pick same w (bump w i)
+raised true w i = let z : getD w i 0 + 0 ≡ getD w i 0 = omega arith in ap (set w i) z ∙ set-getD w i 0
+raised false w i = ap (set w i) (add-one (getD w i 0))
+
+pub jump-raised : (same : Bool) (w : List ℕ) (i k : ℕ)
+    → set (set w i (getD w i 0 + pick same 0 1)) k (getD (set w i (getD w i 0 + pick same 0 1)) k 0 + pick same 0 1) ≡ pick same w (bump (bump w i) k)
+jump-raised true w i k = ap (λ (v : List ℕ). set v k (getD v k 0 + 0)) (raised true w i) ∙ raised true w k
+jump-raised false w i k = ap (λ (v : List ℕ). set v k (getD v k 0 + 1)) (raised false w i) ∙ raised false (bump w i) k
 
 pub length-jump : (l : Layout) (own p q : ℕ) (w : List ℕ) → length (jumpWords l own p q w) ≡ length w
 unfolding jumpWords

@@ -27,12 +27,6 @@ pub enum StartAnswer {
     NoRoom,
 }
 
-fn wide(x: u32) -> usize
-    ensures { λ r. ⌜ r ≡ x ⌝ }
-{
-    x as usize
-}
-
 // 12: an object is of unknown kind.
 fn unknown_kind(t: &[u32; 1684], objects: &[u8]) -> bool
     requires { ⌜ Held (now t) ⌝ }
@@ -42,7 +36,7 @@ fn unknown_kind(t: &[u32; 1684], objects: &[u8]) -> bool
     let kinds = net::look::kinds(t);
     let mut i = 0;
     while i < n {
-        if kinds <= wide(words::get_word(objects, i)) {
+        if kinds <= words::wide(words::get_word(objects, i)) {
             return true;
         }
         i += 1;
@@ -123,7 +117,7 @@ fn put_source(t: &[u32; 1684], objects: &[u8], i: usize, out: &mut [u8], at: usi
     requires { ⌜ (i < length (wordsOf (now objects))) × (at < length (wordsOf (now out))) ⌝ }
     ensures { λ _. ⌜ wordsOf (now (out .exit)) ≡ set (wordsOf (now (out .entry))) at (getD (map (netIn (now (t .entry)) .source) (wordsOf (now (objects .entry)))) i 0) ⌝ }
 {
-    let k = wide(words::get_word(objects, i));
+    let k = words::wide(words::get_word(objects, i));
     let q = net::look::source(t, k);
     words::put_word(out, at, q as u32);
 }

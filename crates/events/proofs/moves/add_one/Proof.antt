@@ -1,24 +1,20 @@
--- `add_one` meets its contract: what is written is one more than what was read. Assumes nothing.
+-- `add_one` meets its contract: 1 more is one more. Assumes nothing.
+use mathlib.Core.Path.{ap, _∙_}
 use native.Mathlib.Numerals.{add-one}
+use lib.ListN.{getD, set}
+use Rattle.words.specs.Words.{wordsOf}
 use borrow.Author.Needs.{needs}
 use Rattle.events.proofs.moves.add_one.Statement.{statement}
 use Rattle.events.proofs.moves.add_one.Tie as tie
 
-get-word-requires : tie.Need-get-word-requires
-get-word-requires c κs = search needs
-
-add-put-word : tie.Need-add-put-word
-add-put-word c = search needs
-
-put-word-requires : tie.Need-put-word-requires
-put-word-requires c κs = search needs
+add-requires : tie.Need-add-requires
+add-requires c κs = search needs
 
 same-length : tie.Need-same-length
 same-length c = search needs
 
 returns : tie.Need-returns
-returns c = cc (add-one (c .before .before .before .before .get-word .result), c .before .before .put-word .ensures .words)
+returns c = let a = c .before .before .before .before .before .args in c .before .before .add .ensures ∙ ap (set (wordsOf (a .rec .now)) (a .i)) (add-one (getD (wordsOf (a .rec .now)) (a .i) 0))
 
 pub add-one-spec : {M : Type 1} → statement M
-add-one-spec =
-    tie.close (tie.spec get-word-requires add-put-word put-word-requires same-length returns)
+add-one-spec = tie.close (tie.spec add-requires same-length returns)

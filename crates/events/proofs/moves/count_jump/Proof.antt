@@ -1,48 +1,50 @@
--- `count_jump` meets its contract: where the places differ, the pair and then number `own` are one more. Assumes nothing.
-use borrow.Author.Tests.{eq-eqb, ne-eqb}
+-- `count_jump` meets its contract: the pair and then number `own` are raised by the jump, or by 0. Assumes nothing.
+use lib.Dec.{eqb}
 use lib.ListN.{length-set}
 use lib.Seq.{getD-set-other}
-use Rattle.events.specs.Moves.{jumpWords}
+use Rattle.words.specs.Words.{wordsOf}
+use Rattle.events.specs.Moves.{pairAt, jumpWords}
+use Rattle.events.proofs.Walk.{jump-raised}
 use borrow.Author.Needs.{needs}
 use Rattle.events.proofs.moves.count_jump.Statement.{statement}
 use Rattle.events.proofs.moves.count_jump.Tie as tie
 
-mul-add-one : tie.Need-mul-add-one
-mul-add-one c = search needs
+jumps-requires : tie.Need-jumps-requires
+jumps-requires c κs = search needs
 
-add-add-one : tie.Need-add-add-one
-add-add-one c = search needs
+mul-add : tie.Need-mul-add
+mul-add c = search needs
 
-add-add-one-2 : tie.Need-add-add-one-2
-add-add-one-2 c = search needs
+add-add : tie.Need-add-add
+add-add c = search needs
 
-add-one-requires : tie.Need-add-one-requires
-add-one-requires c κs = search needs
+add-add-2 : tie.Need-add-add-2
+add-add-2 c = search needs
 
-add-one-requires-2 : tie.Need-add-one-requires-2
-add-one-requires-2 c κs = let s = c .before .before .before .before .before .before .before .before .before in
-    rw (c .before .before .before .add-one .ensures) (record { inside = rw length-set (s .pre .own-can .inside); room = rw (getD-set-other _ _ _ _ _ (s .pre .apart)) (s .pre .own-can .room) })
+add-requires : tie.Need-add-requires
+add-requires c κs = search needs
+
+add-requires-2 : tie.Need-add-requires-2
+add-requires-2 c κs = let s = c .before .before .before .before .before .before .before .before .before in
+    (rw (c .before .before .before .add .ensures) (record { inside = rw length-set (s .pre .own-can .inside); room = rw (getD-set-other _ _ _ _ _ (s .pre .apart)) (s .pre .own-can .room) }), c .before .before .before .before .before .before .before .jumps .ensures .1)
 
 same-length : tie.Need-same-length
 same-length c = search needs
 
 returns : tie.Need-returns
 unfolding jumpWords
-returns c = rw (ne-eqb _ _ (c .before .before .before .before .before .before .before .before .before .before .if1 .taken)) cc
-
-returns-2 : tie.Need-returns-2
-unfolding jumpWords
-returns-2 c = rw (eq-eqb _ _ (c .if1 .left))
+returns c = let a = c .before .before .before .before .before .before .before .before .before .before .before .before .args in
+    rw (c .before .before .add2 .ensures, c .before .before .before .before .before .before .add .ensures, c .before .before .before .before .before .before .before .before .before .before .jumps .ensures .0) (jump-raised (eqb (a .p) (a .q)) (wordsOf (a .rec .now)) (pairAt (a .lay) (a .p) (a .q)) (a .own))
 
 pub count-jump-spec : {M : Type 1} → statement M
 count-jump-spec =
     tie.close
     (tie.spec
-    mul-add-one
-    add-add-one
-    add-add-one-2
-    add-one-requires
-    add-one-requires-2
+    jumps-requires
+    mul-add
+    add-add
+    add-add-2
+    add-requires
+    add-requires-2
     same-length
-    returns
-    returns-2)
+    returns)
