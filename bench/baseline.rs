@@ -232,10 +232,10 @@ impl Replay {
             let object = word(row, 0) as usize & 1023;
             let arc = net.arcs[activity * 8 + (self.kind[object] & 7) as usize];
             let stood = self.place[object];
-            if stood != arc.input {
-                self.pairs[(stood & 63) as usize * 64 + (arc.input & 63) as usize] += 1;
-                jumped += 1;
-            }
+            // counted without a branch, which the jumps of a deviating trace would mispredict
+            let jump = (stood != arc.input) as u32;
+            self.pairs[(stood & 63) as usize * 64 + (arc.input & 63) as usize] += jump;
+            jumped += jump;
             self.place[object] = arc.output;
         }
         self.jumps[activity] += jumped;
