@@ -1,12 +1,11 @@
 -- The answers to an event and to a close as document 01's numbers, and what an event's tests may rely on.
 use Prim.Native.Nat.{ℕ, _<_}
-use mathlib.Core.Bool.{Bool, true, not}
+use mathlib.Core.Bool.{true}
 use mathlib.Core.Path.{_≡_}
-use mathlib.Core.List.{List, [], _∷_}
+use mathlib.Core.List.{List}
 use lib.ListN.{length}
-use lib.Dec.{leb}
-use Rattle.words.specs.Lists.{any, twice, All}
-use Rattle.net.specs.Net.{Net, takes}
+use Rattle.words.specs.Lists.{All}
+use Rattle.net.specs.Net.{takes}
 use Rattle.net.specs.Held.{netIn}
 use Rattle.replay.specs.Plain.{Ask, event, close, kindsOf}
 use Rattle.replay.specs.Calls.{stateAt}
@@ -38,14 +37,6 @@ askEvent a os = event (record { act = a; objs = os })
 
 abbrev pub askClose : Ask
 askClose = close
-
--- 25 to 27: the tests of an event's objects
-abbrev pub objectTests : Net → List ℕ → ℕ → List ℕ → List (Bool × ℕ)
-objectTests N ks a os =
-    (any (λ (o : ℕ). leb (length ks) o) os, 25)
-    ∷ (any (λ (k : ℕ). not (takes N a k)) (kindsOf ks os), 26)
-    ∷ (twice (kindsOf ks os), 27)
-    ∷ []
 
 -- a known activity and as many objects as it has arcs, with the layout of the record
 pub record Counted (w b : List ℕ) (l : Layout) (a : ℕ) (os : List ℕ) : Type 0 where

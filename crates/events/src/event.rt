@@ -7,22 +7,22 @@ use replay::layout::Layout;
 use replay::layout::read_layout;
 ghost use mathlib.Core.Path.{_≡_};
 ghost use mathlib.Core.Bool.{false, not};
-ghost use Prim.Native.Nat.{ℕ, _≤_, _<_};
+ghost use Prim.Native.Nat.{ℕ, _<_};
 ghost use lib.ListN.{length, take};
 ghost use lib.Dec.{leb};
-ghost use Rattle.words.specs.Lists.{any, twice};
+ghost use Rattle.words.specs.Lists.{any};
 ghost use Rattle.words.specs.Refusals.{first};
 ghost use Rattle.words.specs.Words.{wordsOf};
 ghost use Rattle.net.specs.Net.{takes};
 ghost use Rattle.net.specs.Held.{netIn};
-ghost use Rattle.replay.specs.Plain.{kindsOf};
+ghost use Rattle.replay.specs.Plain.{kindsOf, objectTests};
 ghost use Rattle.replay.specs.State.{answerS, afterEvent};
 ghost use Rattle.replay.specs.Record.{tableIn};
 ghost use Rattle.replay.specs.Calls.{stateAt, askCode, askBytes};
 ghost use Rattle.replay.specs.Offsets.{layoutOf};
 ghost use Rattle.replay.specs.Ready.{Ready};
 ghost use Rattle.events.specs.Moves.{numbersOf, movedState};
-ghost use Rattle.events.specs.Answers.{eventCode, askEvent, objectTests, Counted, Known, Moving};
+ghost use Rattle.events.specs.Answers.{eventCode, askEvent, Counted, Known, Moving};
 
 // The answer to an event. `eventCode` gives document 01's number.
 pub enum EventAnswer {

@@ -5,8 +5,8 @@ use crate::counts::bad_counts;
 use crate::jumps::bad_jumps;
 use crate::positions::bad_positions;
 use crate::positions::begins_one;
-use crate::register::refuse_register;
 use checkpoint::RestoreAnswer;
+use replay::register::register_refusal;
 ghost use mathlib.Core.Path.{_≡_};
 ghost use Rattle.net.specs.Held.{netIn, Held};
 ghost use Rattle.checkpoint.specs.Answers.{restoreAnswerCode, restoreAnswerSecond};
@@ -15,7 +15,6 @@ ghost use Rattle.judging.specs.Judge.{judgeCode, judgeSecond};
 mod counts;
 mod jumps;
 mod positions;
-mod register;
 
 // The register's bytes, then those of positions, counts and jumps.
 pub fn judge(ks: &[u8], ps: &[u8], cs: &[u8], js: &[u8], t: &[u32; 1684]) -> RestoreAnswer
@@ -26,7 +25,7 @@ pub fn judge(ks: &[u8], ps: &[u8], cs: &[u8], js: &[u8], t: &[u32; 1684]) -> Res
     if ks.len() % 4 != 0 {
         return RestoreAnswer::Objects(0);
     }
-    let n = refuse_register(ks, t);
+    let n = register_refusal(ks, t);
     if n != 0 {
         return RestoreAnswer::Objects(n);
     }

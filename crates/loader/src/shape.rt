@@ -1,10 +1,7 @@
 // The tests 1 to 3 on a table's bytes: length, layout, sizes.
 
 ghost use mathlib.Core.Path.{_≡_};
-ghost use Prim.Native.Nat.{_≤_};
-ghost use lib.ListN.{length};
 ghost use Rattle.words.specs.Refusals.{first};
-ghost use Rattle.words.specs.Words.{word};
 ghost use Rattle.net.specs.Table.{sizeTests, rowTests, shapeTests};
 
 // 3, or 0: how many kinds, places and activities there are.

@@ -7,7 +7,7 @@ use native.Mathlib.Omega.{arith}
 use lib.ListN.{length, getD}
 use lib.Seq.{sets}
 use Rattle.words.specs.Lists.{pick, All, pairUp, parts, twice}
-use Rattle.words.specs.Words.{word, bodyOf}
+use Rattle.words.specs.Words.{bodyOf}
 use Rattle.words.proofs.Lists.{All-of, All-to, is-eq}
 use Rattle.net.specs.Net.{Net, Arc, Loaded, GoodArc, takes, inputOf, outputOf, kindsOf}
 use Rattle.net.specs.Table.{netOf, loadCode}

@@ -2,7 +2,6 @@
 
 use lines::size;
 use report::trail::NextJump;
-ghost use mathlib.Core.Path.{_≡_};
 ghost use Prim.Native.Nat.{_≤_};
 ghost use lib.ListN.{length};
 ghost use Rattle.replay.specs.Ready.{Ready};

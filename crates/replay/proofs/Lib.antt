@@ -6,6 +6,7 @@ pub mod Keep
 mod PairLaws
 pub mod Permit
 pub mod RecordLaws
+pub mod Registers
 pub mod Rows
 pub mod Simulate
 pub mod Tally

@@ -3,7 +3,7 @@
 use Prim.Native.Nat.{ℕ}
 use mathlib.Core.Bool.{Bool, not}
 use mathlib.Core.List.{List, [], _∷_, _++_, map}
-use lib.ListN.{length, getD, set}
+use lib.ListN.{length, getD, set, drop}
 use lib.Dec.{ltb, leb, eqb}
 use Rattle.words.specs.Lists.{pick, any, twice, upto}
 use Rattle.words.specs.Refusals.{first}
@@ -88,6 +88,10 @@ module _ (N : Net) (ks : List ℕ) where
 
   abbrev pub refusal : ℕ → ℕ → Event → ℕ
   refusal closed events e = first (eventTests closed events e)
+
+-- the last three alone, of an activity and objects
+abbrev pub objectTests : Net → List ℕ → ℕ → List ℕ → List (Bool × ℕ)
+objectTests N ks a os = drop 4 (eventTests N ks 0 0 (record { act = a; objs = os }))
 
 -- the refusal of a close
 abbrev pub closeTests : ℕ → List (Bool × ℕ)

@@ -5,12 +5,12 @@ use net::INPUTS;
 use net::PLACES;
 use words::wide;
 ghost use mathlib.Core.Path.{_≡_};
-ghost use Prim.Native.Nat.{ℕ, _+_, _≤_};
+ghost use Prim.Native.Nat.{_+_, _≤_};
 ghost use mathlib.Core.List.{List};
 ghost use lib.ListN.{getD, take, drop};
 ghost use Rattle.words.specs.Lists.{any, twice, pairUp, parts};
 ghost use Rattle.net.specs.Net.{Arc, kindsOf};
-ghost use Rattle.net.specs.Held.{netIn, countsIn, arcsIn, Sized};
+ghost use Rattle.net.specs.Held.{netIn, countsIn, arcsIn};
 ghost use Rattle.net.specs.Ruled.{Ruled};
 
 // Two of the n arcs from arc `from` on are of one kind.

@@ -7,13 +7,13 @@ use net::SINKS;
 use net::SOURCES;
 use words::wide;
 ghost use mathlib.Core.Path.{_≡_};
-ghost use mathlib.Core.Bool.{Bool, not, false};
-ghost use Prim.Native.Nat.{ℕ, _≤_, _<_};
-ghost use lib.ListN.{length, getD, set};
+ghost use mathlib.Core.Bool.{not, false};
+ghost use Prim.Native.Nat.{ℕ, _<_};
+ghost use lib.ListN.{getD, set};
 ghost use lib.Dec.{eqb};
 ghost use Rattle.words.specs.Lists.{pick, anyTo, pairUp};
 ghost use Rattle.net.specs.Table.{pass, passes, marked};
-ghost use Rattle.net.specs.Held.{netIn, arcsIn, Sized};
+ghost use Rattle.net.specs.Held.{netIn, arcsIn};
 ghost use Rattle.net.specs.Ruled.{Ruled, sourceMarks};
 
 // One arc from p to q. True where it marked something new, else what `more` says.

@@ -1,18 +1,17 @@
 -- Starting: the numbers that are stored one body after another are the record's, and the answers by the tests. Assumes nothing.
 use Prim.Native.Nat.{ℕ, zero, suc, _+_, _*_, _/_, _%_, _≤_, _<_}
-use mathlib.Core.Bool.{true, false}
 use mathlib.Core.Path.{_≡_, refl, ap, sym, subst, _∙_}
 use mathlib.Core.List.{List, [], _∷_, _++_, map}
 use native.Mathlib.Omega.{arith}
 use native.Mathlib.Nat.{add-zero}
 use lib.ListN.{length, getD, set, replicate, length-append, length-replicate, length-map}
-use lib.Dec.{ltb, leb, eqb}
+use lib.Dec.{ltb}
 use lib.Seq.{sets}
 use borrow.Author.Tests.{eq-eqb, ne-eqb, lt-ltb, le-ltb}
-use Rattle.words.specs.Lists.{pick, any, All}
+use Rattle.words.specs.Lists.{pick, All}
 use Rattle.words.specs.Words.{wordsOf, bytesOf}
 use Rattle.words.proofs.Words.{length-words, bytes-of-words}
-use Rattle.words.proofs.Refusals.{first-then}
+use Rattle.words.proofs.Refusals.{first-then, first-stays}
 use Rattle.net.specs.Net.{Net}
 use Rattle.net.specs.Table.{netOf}
 use Rattle.net.specs.Held.{netIn}
@@ -143,28 +142,9 @@ module _ (table objects lent : List ℕ) where
   unfolding startBytes
   refused n h e = (e, rw (ne-eqb (startCode table (wordsOf objects) (length lent)) 0 (λ z. omega (arith, e))))
 
-  pub none-given : length objects / 4 ≡ 0 → Answers 11 lent
+  pub register-refused : (n : ℕ) → 0 < n → n ≡ registerCode (netOf table) (wordsOf objects) → Answers n lent
   unfolding startCode
-  none-given e = refused 11 (omega arith) (rw (eq-eqb (length (wordsOf objects)) 0 (omega (arith, length-words objects))))
-
-  module _ (some : length objects / 4 ≡ 0 → ⊥) where
-    first-passed : eqb (length (wordsOf objects)) 0 ≡ false
-    first-passed = ne-eqb (length (wordsOf objects)) 0 (λ z. some (omega (arith, length-words objects)))
-
-    pub many-given : 1024 < length objects / 4 → Answers 11 lent
-    unfolding startCode
-    many-given h = refused 11 (omega arith) (rw (first-passed, lt-ltb 1024 (length (wordsOf objects)) (omega (arith, length-words objects))))
-
-    module _ (few : length objects / 4 ≤ 1024) where
-      second-passed : ltb 1024 (length (wordsOf objects)) ≡ false
-      second-passed = le-ltb 1024 (length (wordsOf objects)) (omega (arith, length-words objects))
-
-      pub unknown-given : any (λ (k : ℕ). leb (netOf table .kinds) k) (wordsOf objects) ≡ true → Answers 12 lent
-      unfolding startCode
-      unknown-given e = refused 12 (omega arith) (rw (first-passed, second-passed, e))
-
-      pub not-refused : any (λ (k : ℕ). leb (netOf table .kinds) k) (wordsOf objects) ≡ false → registerCode (netOf table) (wordsOf objects) ≡ 0
-      not-refused e = rw (first-passed, second-passed, e)
+  register-refused n h e = refused n h (e ∙ sym (first-stays (registerTests (netOf table) (wordsOf objects)) ((ltb (length lent) (length (startRecord table (wordsOf objects))), 61) ∷ []) (λ z. omega (arith, e ∙ z))))
 
   module _ (ok : registerCode (netOf table) (wordsOf objects) ≡ 0) where
     last-test : startCode table (wordsOf objects) (length lent) ≡ pick (ltb (length lent) (length (startRecord table (wordsOf objects)))) 61 0

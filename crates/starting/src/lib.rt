@@ -1,12 +1,12 @@
 // Starting a trail: its first record, written into lent bytes from a loaded table and the objects' kinds.
 
+use replay::register::register_refusal;
 ghost use mathlib.Core.Path.{_≡_};
 ghost use mathlib.Core.List.{map};
 ghost use Prim.Native.Nat.{ℕ, _+_, _*_, _<_, _≤_};
 ghost use lib.ListN.{length, getD, set, replicate};
-ghost use lib.Dec.{leb};
 ghost use lib.Seq.{sets};
-ghost use Rattle.words.specs.Lists.{any, All};
+ghost use Rattle.words.specs.Lists.{All};
 ghost use Rattle.words.specs.Words.{wordsOf};
 ghost use Rattle.net.specs.Held.{netIn, Held};
 ghost use Rattle.net.specs.Table.{netOf};
@@ -25,23 +25,6 @@ pub enum StartAnswer {
     Kind,
     // 61: the lent part is shorter than the record.
     NoRoom,
-}
-
-// 12: an object is of unknown kind.
-fn unknown_kind(t: &[u32; 1684], objects: &[u8]) -> bool
-    requires { ⌜ Held (now t) ⌝ }
-    ensures { λ r. ⌜ r ≡ any (λ (k : ℕ). leb (netIn (now (t .entry)) .kinds) k) (wordsOf (now (objects .entry))) ⌝ }
-{
-    let n = objects.len() / 4;
-    let kinds = net::look::kinds(t);
-    let mut i = 0;
-    while i < n {
-        if kinds <= words::wide(words::get_word(objects, i)) {
-            return true;
-        }
-        i += 1;
-    }
-    false
 }
 
 // How many bytes the counts take.
@@ -190,14 +173,11 @@ pub fn start(t: &[u32; 1684], table: &[u8], objects: &[u8], rec: &mut [u8]) -> S
     ensures { λ r. ⌜ startAnswerCode r ≡ startCode (now (table .entry)) (wordsOf (now (objects .entry))) (length (now (rec .entry))) ⌝ }
     ensures { λ _. ⌜ now (rec .exit) ≡ startBytes (now (table .entry)) (wordsOf (now (objects .entry))) (now (rec .entry)) ⌝ }
 {
-    let n = objects.len() / 4;
-    if n == 0 {
+    let code = register_refusal(objects, t);
+    if code == 11 {
         return StartAnswer::Number;
     }
-    if 1024 < n {
-        return StartAnswer::Number;
-    }
-    if unknown_kind(t, objects) {
+    if code == 12 {
         return StartAnswer::Kind;
     }
     write_start(t, table, objects, rec)

@@ -14,7 +14,8 @@ use Rattle.net.specs.Net.{Net, Loaded}
 use Rattle.tracefile.specs.declared.Answer.{Answer}
 use Rattle.tracefile.specs.declared.Found.the-variants as found
 use Rattle.tracefile.specs.Answers.{nothing, unless}
-use Rattle.tracefile.specs.Parts.{Ready, frontTests, objectTests, objectsFound}
+use Rattle.replay.specs.Plain.{objectTests}
+use Rattle.tracefile.specs.Parts.{Ready, frontTests, objectsFound}
 use Rattle.tracefile.specs.Trace.{objectsAt, endFound, readTests, readFrom}
 use Rattle.tracefile.proofs.ObjectLaws.{length-objects}
 

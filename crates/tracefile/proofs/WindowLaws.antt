@@ -15,11 +15,11 @@ use Rattle.words.specs.Words.{word}
 use Rattle.words.proofs.Lists.{is-eq}
 use Rattle.words.proofs.Refusals.{none-apply, first-stays}
 use Rattle.net.specs.Net.{Net, Loaded}
+use Rattle.replay.specs.Plain.{objectTests}
 use Rattle.tracefile.specs.declared.Answer.{Answer}
 use Rattle.tracefile.specs.declared.Found.the-variants as found
 use Rattle.tracefile.specs.Answers.{nothing, unless}
 use Rattle.tracefile.specs.Claims.{WindowEnough}
-use Rattle.tracefile.specs.Parts.{objectTests}
 use Rattle.tracefile.specs.Trace.{objectsAt, eventFound, readTests, readFrom}
 use Rattle.tracefile.proofs.ObjectLaws.{length-objects}
 use Rattle.tracefile.proofs.ReadLaws.{refused-is}

@@ -1,14 +1,13 @@
 -- The tests of a read in the parts in which they are made, and what each part may rely on.
 use Prim.Native.Nat.{ℕ, _+_, _*_, _≤_, _<_}
 use mathlib.Core.Bool.{Bool, not}
-use mathlib.Core.List.{List, [], _∷_, _++_}
-use lib.ListN.{length, getD}
+use mathlib.Core.List.{List, [], _∷_}
+use lib.ListN.{length, getD, take}
 use lib.Dec.{ltb, leb, eqb}
-use Rattle.words.specs.Lists.{any, twice}
 use Rattle.words.specs.Refusals.{first}
 use Rattle.words.specs.Words.{word}
-use Rattle.net.specs.Net.{Net, takes}
-use Rattle.replay.specs.Plain.{kindsOf, registerTests}
+use Rattle.net.specs.Net.{Net}
+use Rattle.replay.specs.Plain.{objectTests, registerTests}
 use Rattle.tracefile.specs.declared.Answer.{Answer}
 use Rattle.tracefile.specs.Answers.{unless}
 use Rattle.tracefile.specs.Trace.{objectsAt, eventFound, readFrom}
@@ -41,14 +40,7 @@ frontTests N accepted w body at =
 
 -- 25, 26
 abbrev pub kindTests : Net → List ℕ → ℕ → List ℕ → List (Bool × ℕ)
-kindTests N ks a os =
-    (any (λ (o : ℕ). leb (length ks) o) os, 25)
-    ∷ (any (λ (k : ℕ). not (takes N a k)) (kindsOf ks os), 26)
-    ∷ []
-
--- 25, 26, 27
-abbrev pub objectTests : Net → List ℕ → ℕ → List ℕ → List (Bool × ℕ)
-objectTests N ks a os = kindTests N ks a os ++ (twice (kindsOf ks os), 27) ∷ []
+kindTests N ks a os = take 2 (objectTests N ks a os)
 
 -- an event in the window w whose numbers are all there, of a known activity, with as many objects as it has arcs
 pub record Ready (N : Net) (w : List ℕ) (at : ℕ) : Type 0 where

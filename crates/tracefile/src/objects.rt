@@ -8,16 +8,16 @@ use words::word_at;
 ghost use mathlib.Core.Bool.{not};
 ghost use mathlib.Core.Path.{_≡_};
 ghost use Prim.Native.Nat.{_+_, _*_, _≤_, _<_};
-ghost use lib.ListN.{length, take, replicate};
+ghost use lib.ListN.{length, replicate};
 ghost use lib.Dec.{leb};
 ghost use lib.Seq.{sets};
-ghost use Rattle.words.specs.Lists.{pick, twice};
+ghost use Rattle.words.specs.Lists.{pick};
 ghost use Rattle.words.specs.Refusals.{first};
 ghost use Rattle.words.specs.Words.{word, wordsOf};
 ghost use Rattle.net.specs.Held.{netIn, Held};
 ghost use Rattle.net.specs.Net.{takes};
-ghost use Rattle.replay.specs.Plain.{kindsOf};
-ghost use Rattle.tracefile.specs.Parts.{Known, kindTests, objectTests};
+ghost use Rattle.replay.specs.Plain.{kindsOf, objectTests};
+ghost use Rattle.tracefile.specs.Parts.{Known, kindTests};
 ghost use Rattle.tracefile.specs.Trace.{objectsAt};
 
 // Object i of the n that stand from byte 8 of the window on, and 0 behind them.

@@ -1,19 +1,15 @@
 // Opening a trail file: 71, then 11 and 12.
 
 use crate::Contents;
-use net::look::kinds;
-use words::get_word;
+use replay::register::register_refusal;
 use words::wide;
 use words::word_at;
 ghost use mathlib.Core.Path.{_≡_};
-ghost use Prim.Native.Nat.{ℕ, _-_, _≤_};
-ghost use lib.Dec.{leb};
+ghost use Prim.Native.Nat.{_-_, _≤_};
 ghost use lib.ListN.{length, take, drop};
-ghost use Rattle.words.specs.Lists.{any};
 ghost use Rattle.words.specs.Refusals.{first};
 ghost use Rattle.words.specs.Words.{wordsOf};
 ghost use Rattle.net.specs.Held.{netIn, Held};
-ghost use Rattle.replay.specs.Plain.{registerCode};
 ghost use Rattle.tracefile.specs.Answers.{contentsCode};
 ghost use Rattle.tracefile.specs.Parts.{openCode};
 ghost use Rattle.tracefile.specs.Trace.{contentsTests, contentsOf, traceCode};
@@ -40,41 +36,6 @@ pub fn read_contents(head: &[u8]) -> Contents
         register,
         events: wide(word_at(head, 12)),
     }
-}
-
-// 12: an object of unknown kind.
-fn unknown_kind(register: &[u8], t: &[u32; 1684]) -> bool
-    requires { ⌜ Held (now t) ⌝ }
-    ensures { λ r. ⌜ r ≡ any (λ (k : ℕ). leb (netIn (now (t .entry)) .kinds) k) (wordsOf (now (register .entry))) ⌝ }
-{
-    let n = register.len() / 4;
-    let known = kinds(t);
-    let mut i = 0;
-    while i < n {
-        if known <= wide(get_word(register, i)) {
-            return true;
-        }
-        i += 1;
-    }
-    false
-}
-
-// 11, 12 or 0, by a register's bytes.
-pub fn register_refusal(register: &[u8], t: &[u32; 1684]) -> u32
-    requires { ⌜ Held (now t) ⌝ }
-    ensures { λ r. ⌜ r ≡ registerCode (netIn (now (t .entry))) (wordsOf (now (register .entry))) ⌝ }
-{
-    let n = register.len() / 4;
-    if n == 0 {
-        return 11;
-    }
-    if 1024 < n {
-        return 11;
-    }
-    if unknown_kind(register, t) {
-        return 12;
-    }
-    0
 }
 
 // 71, 11, 12 or 0 for a file whose contents are not broken. Its register claims `claimed` bytes, of which `there` are in

@@ -2,8 +2,8 @@
 // The lowest room: every other crate leans on it, and it uses nothing.
 
 ghost use mathlib.Core.Path.{_≡_};
-ghost use Prim.Native.Nat.{ℕ, _+_, _*_, _<_, _≤_};
-ghost use lib.ListN.{length, getD, set};
+ghost use Prim.Native.Nat.{_+_, _*_, _<_, _≤_};
+ghost use lib.ListN.{length, getD};
 ghost use Rattle.words.specs.Words.{word, wordsOf, bodiesOf, endsAt};
 ghost use Rattle.words.specs.Put.{Put};
 

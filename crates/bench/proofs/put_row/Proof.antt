@@ -4,7 +4,6 @@ use native.Mathlib.Omega.{arith}
 use lib.ListN.{length}
 use Rattle.words.specs.Words.{wordsOf}
 use Rattle.words.proofs.Words.{length-words}
-use Rattle.replay.specs.Plain.{Ask}
 use Rattle.replay.specs.Calls.{askCode, askBytes}
 use Rattle.bench.proofs.Rows.{objects-size, row-is}
 use borrow.Author.Needs.{needs}

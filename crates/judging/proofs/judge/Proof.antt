@@ -15,7 +15,7 @@ use Rattle.judging.proofs.judge.Statement.{statement}
 use Rattle.judging.proofs.judge.Tie as tie
 
 registered : (c : tie.Else2) → registerCode (netIn (c .before .before .before .before .before .before .before .args .t .now)) (wordsOf (c .before .before .before .before .before .before .before .args .ks .now)) ≡ 0
-registered c = sym (c .before .refuse-register .ensures) ∙ c .if2 .left
+registered c = sym (c .before .register-refusal .ensures) ∙ c .if2 .left
 
 positions-are : (c : tie.After-bad-positions) → c .bad-positions .result ≡ hit (tests45 (netIn (c .before .before .before .before .before .before .before .before .before .args .t .now)) (bodyState (c .before .before .before .before .before .before .before .before .before .args .ks .now) (c .before .before .before .before .before .before .before .before .before .args .ps .now) [] []) (length (c .before .before .before .before .before .before .before .before .before .args .ps .now)) (beginsOne (c .before .before .before .before .before .before .before .before .before .args .cs .now)))
 positions-are c =
@@ -25,14 +25,14 @@ positions-are c =
 returns : tie.Need-returns
 returns c = let s = c .before .before .before .before .before in judge-rows (netIn (s .args .t .now)) (s .args .ks .now) (s .args .ps .now) (s .args .cs .now) (s .args .js .now) (c .if1 .taken)
 
-refuse-register-requires : tie.Need-refuse-register-requires
-refuse-register-requires c κs = search needs
+register-refusal-requires : tie.Need-register-refusal-requires
+register-refusal-requires c κs = search needs
 
 returns-2 : tie.Need-returns-2
 returns-2 c =
     let s = c .before .before .before .before .before .before .before in
-    let r = judge-register (netIn (s .args .t .now)) (s .args .ks .now) (s .args .ps .now) (s .args .cs .now) (s .args .js .now) (c .before .before .if1 .left) (λ e. c .if2 .taken (c .before .refuse-register .ensures ∙ e)) in
-    (r .0, c .before .refuse-register .ensures ∙ r .1)
+    let r = judge-register (netIn (s .args .t .now)) (s .args .ks .now) (s .args .ps .now) (s .args .cs .now) (s .args .js .now) (c .before .before .if1 .left) (λ e. c .if2 .taken (c .before .register-refusal .ensures ∙ e)) in
+    (r .0, c .before .register-refusal .ensures ∙ r .1)
 
 begins-one-requires : tie.Need-begins-one-requires
 begins-one-requires c κs = search needs
@@ -67,7 +67,7 @@ judge-spec =
     tie.close
     (tie.spec
     returns
-    refuse-register-requires
+    register-refusal-requires
     returns-2
     begins-one-requires
     bad-positions-requires

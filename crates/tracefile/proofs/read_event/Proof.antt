@@ -7,7 +7,8 @@ use lib.Seq.{sets}
 use Rattle.words.specs.Refusals.{first}
 use Rattle.words.specs.Words.{word, wordsOf}
 use Rattle.net.specs.Held.{netIn}
-use Rattle.tracefile.specs.Parts.{objectTests, objectsFound}
+use Rattle.replay.specs.Plain.{objectTests}
+use Rattle.tracefile.specs.Parts.{objectsFound}
 use Rattle.tracefile.specs.Trace.{objectsAt, eventFound}
 use Rattle.tracefile.proofs.ReadLaws.{unless-taken, refused-is}
 use borrow.Author.Needs.{needs}

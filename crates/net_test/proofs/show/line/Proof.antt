@@ -3,7 +3,7 @@ use Prim.Native.Nat.{ℕ}
 use mathlib.Core.Path.{_≡_, sym, _∙_}
 use mathlib.Core.List.{List}
 use Rattle.net.specs.Table.{loadCode}
-use Rattle.net.specs.Held.{Held, loadedWords, afterLoad}
+use Rattle.net.specs.Held.{loadedWords, afterLoad}
 use borrow.Author.Needs.{needs}
 use Rattle.net_test.proofs.show.line.Statement.{statement}
 use Rattle.net_test.proofs.show.line.Tie as tie

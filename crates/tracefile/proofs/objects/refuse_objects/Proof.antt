@@ -11,8 +11,8 @@ use Rattle.words.specs.Refusals.{first}
 use Rattle.words.specs.Words.{wordsOf}
 use Rattle.words.proofs.Refusals.{first-then, first-stays}
 use Rattle.net.specs.Held.{netIn}
-use Rattle.replay.specs.Plain.{kindsOf}
-use Rattle.tracefile.specs.Parts.{kindTests, objectTests}
+use Rattle.replay.specs.Plain.{kindsOf, objectTests}
+use Rattle.tracefile.specs.Parts.{kindTests}
 use Rattle.tracefile.specs.Trace.{objectsAt}
 use Rattle.tracefile.proofs.ObjectLaws.{length-objects, kinds-length, kinds-front}
 use borrow.Author.Needs.{needs}
