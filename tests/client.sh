@@ -8,3 +8,7 @@ trap 'rm -rf "$work"' EXIT
 [ -f target/staticlib/libclient.a ] || rt staticlib client
 rustc --edition 2021 -O -D warnings -L target/staticlib -l static=client tests/client.rs -o "$work/client_test"
 "$work/client_test" "$@"
+# the first rounds again, where every access to memory is watched
+if command -v valgrind >/dev/null && [ $# -eq 0 ]; then
+    valgrind --error-exitcode=1 -q "$work/client_test" 12
+fi
