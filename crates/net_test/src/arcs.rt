@@ -1,10 +1,10 @@
 // Tables with a fault of 7, 8 or 9, and sound ones beside them.
 
-use crate::trial::chain;
-use crate::trial::m_whole;
-use crate::trial::m_with;
-use crate::trial::sized;
-use crate::trial::sized_with;
+use net_cases::chain;
+use net_cases::m_whole;
+use net_cases::m_with;
+use net_cases::sized;
+use net_cases::sized_with;
 
 // 7: an arc with a place that is none.
 pub fn unknown() {

@@ -1,10 +1,10 @@
 // Tables with a fault of 4, 5 or 6, and the limits on both sides.
 
-use crate::trial::m_part;
-use crate::trial::m_whole;
-use crate::trial::m_with;
-use crate::trial::sized;
-use crate::trial::sized_with;
+use net_cases::m_part;
+use net_cases::m_whole;
+use net_cases::m_with;
+use net_cases::sized;
+use net_cases::sized_with;
 
 // 4: a place of unknown kind.
 pub fn places() {

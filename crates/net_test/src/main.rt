@@ -5,9 +5,6 @@ mod arcs;
 mod fronts;
 mod orders;
 mod shapes;
-mod show;
-mod table;
-mod trial;
 
 fn main() {
     shapes::lengths();

@@ -1,9 +1,9 @@
 // Tables with several faults: the first number that applies is given.
 
-use crate::trial::m_part;
-use crate::trial::m_with;
-use crate::trial::sized;
-use crate::trial::sized_with;
+use net_cases::m_part;
+use net_cases::m_with;
+use net_cases::sized;
+use net_cases::sized_with;
 
 // Several faults at once, the first of them 1 to 3.
 pub fn shapes() {

@@ -1,10 +1,10 @@
 // Tables with a fault of 1, 2 or 3, and the limits on both sides.
 
-use crate::trial::largest;
-use crate::trial::m_part;
-use crate::trial::m_whole;
-use crate::trial::m_with;
-use crate::trial::sized;
+use net_cases::largest;
+use net_cases::m_part;
+use net_cases::m_whole;
+use net_cases::m_with;
+use net_cases::sized;
 
 // 1: the length.
 pub fn lengths() {
