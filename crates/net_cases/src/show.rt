@@ -5,13 +5,12 @@ ghost use mathlib.Core.Path.{_≡_};
 ghost use Prim.Native.Nat.{_<_};
 ghost use lib.ListN.{length};
 ghost use Rattle.net.specs.Held.{Held};
-ghost use Rattle.net.specs.Answer.{codeOf};
 
 pub fn text(s: &[u8]) {
     io::write_all(libc::STDOUT_FILENO, s);
 }
 
-pub fn number(n: usize) {
+pub fn decimal(n: usize) {
     io::print_decimal(libc::STDOUT_FILENO, n as u64);
 }
 
@@ -31,24 +30,6 @@ fn put_name(a: LoadAnswer) {
         LoadAnswer::ArcPlaces => text(b"ArcPlaces "),
         LoadAnswer::TwoOfKind => text(b"TwoOfKind "),
         LoadAnswer::Unreached => text(b"Unreached "),
-    }
-}
-
-// Document 01's number of an answer.
-fn code(a: LoadAnswer) -> usize
-    ensures { λ r. ⌜ r ≡ codeOf a ⌝ }
-{
-    match a {
-        LoadAnswer::Taken => 0,
-        LoadAnswer::Length => 1,
-        LoadAnswer::Layout => 2,
-        LoadAnswer::Size => 3,
-        LoadAnswer::PlaceKind => 4,
-        LoadAnswer::Ends => 5,
-        LoadAnswer::Arcs => 6,
-        LoadAnswer::ArcPlaces => 7,
-        LoadAnswer::TwoOfKind => 8,
-        LoadAnswer::Unreached => 9,
     }
 }
 
@@ -94,11 +75,11 @@ fn put_ends(t: &[u32; 1684], k: usize)
 {
     if k < net::look::kinds(t) {
         text(b"; kind ");
-        number(k);
+        decimal(k);
         text(b" from ");
-        number(net::look::source(t, k));
+        decimal(net::look::source(t, k));
         text(b" to ");
-        number(net::look::sink(t, k));
+        decimal(net::look::sink(t, k));
     }
 }
 
@@ -107,9 +88,9 @@ fn put_place(t: &[u32; 1684], p: usize)
 {
     if p < net::look::places(t) {
         text(b"; place ");
-        number(p);
+        decimal(p);
         text(b" of ");
-        number(net::look::kind_of(t, p));
+        decimal(net::look::kind_of(t, p));
     }
 }
 
@@ -121,11 +102,11 @@ fn put_arc(t: &[u32; 1684], a: usize, k: usize)
         if k < net::look::kinds(t) {
             if net::look::takes_kind(t, a, k) {
                 text(b", kind ");
-                number(k);
+                decimal(k);
                 text(b" from ");
-                number(net::look::input(t, a, k));
+                decimal(net::look::input(t, a, k));
                 text(b" to ");
-                number(net::look::output(t, a, k));
+                decimal(net::look::output(t, a, k));
             }
         }
     }
@@ -146,9 +127,9 @@ fn put_act(t: &[u32; 1684], a: usize)
 {
     if a < net::look::acts(t) {
         text(b"; activity ");
-        number(a);
+        decimal(a);
         text(b" of ");
-        number(net::look::arcs(t, a));
+        decimal(net::look::arcs(t, a));
         put_arcs(t, a);
     }
 }
@@ -193,11 +174,11 @@ fn put_net(t: &[u32; 1684], whole: bool)
     requires { ⌜ Held (now t) ⌝ }
 {
     text(b", ");
-    number(net::look::kinds(t));
+    decimal(net::look::kinds(t));
     text(b" kinds, ");
-    number(net::look::places(t));
+    decimal(net::look::places(t));
     text(b" places, ");
-    number(net::look::acts(t));
+    decimal(net::look::acts(t));
     text(b" activities");
     put_all_ends(t, begin(net::look::kinds(t), whole));
     put_all_places(t, begin(net::look::places(t), whole));
@@ -209,11 +190,11 @@ pub fn line(label: &[u8], s: &[u8], whole: bool) {
     let mut t = [0u32; 1684];
     fill(&mut t);
     let a = loader::load(s, &mut t);
-    let n = code(a);
+    let n = net::number(a);
     text(label);
     text(b": ");
     put_name(a);
-    number(n);
+    decimal(words::wide(n));
     if n == 0 {
         put_net(&t, whole);
     } else {

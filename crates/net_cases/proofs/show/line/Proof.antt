@@ -18,8 +18,8 @@ fill-requires c κs = search needs
 load-requires : tie.Need-load-requires
 load-requires c κs = search needs
 
-code-requires : tie.Need-code-requires
-code-requires c κs = search needs
+number-requires : tie.Need-number-requires
+number-requires c κs = search needs
 
 text-requires : tie.Need-text-requires
 text-requires c κs = search needs
@@ -33,14 +33,17 @@ text-requires-2 c κs = search needs
 put-name-requires : tie.Need-put-name-requires
 put-name-requires c κs = search needs
 
-number-requires : tie.Need-number-requires
-number-requires c κs = search needs
+wide-requires : tie.Need-wide-requires
+wide-requires c κs = search needs
+
+decimal-requires : tie.Need-decimal-requires
+decimal-requires c κs = search needs
 
 put-net-requires : tie.Need-put-net-requires
 put-net-requires c κs =
-    let l = c .before .before .before .before .before .before .before .before in
-    let s = c .before .before .before .before .before .before .before .before .before .before .before .before .before .before in
-    let z : loadCode (s .args .s .now) ≡ 0 = sym (l .load .ensures .0) ∙ sym (c .before .before .before .before .before .before .before .code .ensures) ∙ c .before .if1 .taken in
+    let l = c .before .before .before .before .before .before .before .before .before in
+    let s = c .before .before .before .before .before .before .before .before .before .before .before .before .before .before .before in
+    let z : loadCode (s .args .s .now) ≡ 0 = sym (l .load .ensures .0) ∙ sym (c .before .before .before .before .before .before .before .before .number .ensures) ∙ c .before .if1 .taken in
     record {
       table = s .args .s .now;
       before = l .before .before .fill .last .0;
@@ -67,12 +70,13 @@ line-spec =
     (tie.spec
     fill-requires
     load-requires
-    code-requires
+    number-requires
     text-requires
     slice-aggregate-text
     text-requires-2
     put-name-requires
-    number-requires
+    wide-requires
+    decimal-requires
     put-net-requires
     put-words-requires
     slice-aggregate-text-2

@@ -19,8 +19,8 @@ slice-aggregate-text c = search needs
 text-requires : tie.Need-text-requires
 text-requires c κs = search needs
 
-number-requires : tie.Need-number-requires
-number-requires c κs = search needs
+decimal-requires : tie.Need-decimal-requires
+decimal-requires c κs = search needs
 
 slice-aggregate-text-2 : tie.Need-slice-aggregate-text-2
 slice-aggregate-text-2 c = search needs
@@ -31,8 +31,8 @@ text-requires-2 c κs = search needs
 input-requires : tie.Need-input-requires
 input-requires c κs = (search needs, (search needs, search needs, sym (c .before .before .before .before .before .before .takes-kind .ensures) ∙ c .before .before .before .before .before .if3 .taken))
 
-number-requires-2 : tie.Need-number-requires-2
-number-requires-2 c κs = search needs
+decimal-requires-2 : tie.Need-decimal-requires-2
+decimal-requires-2 c κs = search needs
 
 slice-aggregate-text-3 : tie.Need-slice-aggregate-text-3
 slice-aggregate-text-3 c = search needs
@@ -43,8 +43,8 @@ text-requires-3 c κs = search needs
 output-requires : tie.Need-output-requires
 output-requires c κs = (search needs, (search needs, search needs, sym (c .before .before .before .before .before .before .before .before .before .before .takes-kind .ensures) ∙ c .before .before .before .before .before .before .before .before .before .if3 .taken))
 
-number-requires-3 : tie.Need-number-requires-3
-number-requires-3 c κs = search needs
+decimal-requires-3 : tie.Need-decimal-requires-3
+decimal-requires-3 c κs = search needs
 
 returns : tie.Need-returns
 returns c = search needs
@@ -67,15 +67,15 @@ put-arc-spec =
     takes-kind-requires
     slice-aggregate-text
     text-requires
-    number-requires
+    decimal-requires
     slice-aggregate-text-2
     text-requires-2
     input-requires
-    number-requires-2
+    decimal-requires-2
     slice-aggregate-text-3
     text-requires-3
     output-requires
-    number-requires-3
+    decimal-requires-3
     returns
     returns-2
     returns-3
