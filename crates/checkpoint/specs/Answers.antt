@@ -1,4 +1,4 @@
--- The numbers of this paper for each answer of checking, taking up and putting down a record.
+-- The paper's number for each answer of checking, taking up and putting down a record.
 use Prim.Native.Nat.{ℕ}
 use Rattle.checkpoint.specs.declared.RestoreAnswer.{RestoreAnswer}
 use Rattle.checkpoint.specs.declared.RestoreAnswer.the-variants.{Taken, Length, Layout, Table, Objects, Positions, Counts, Jumps}

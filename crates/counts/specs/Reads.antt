@@ -1,4 +1,4 @@
--- Reading counts from a trail's bytes: what each reader gives, and this paper's number and values for each of its cases.
+-- Reading counts from a trail's bytes: what each reader gives, and the paper's number and values for each of its cases.
 use Prim.Native.Nat.{ℕ}
 use mathlib.Core.Bool.{Bool}
 use mathlib.Core.List.{List, [], _∷_}

@@ -1,4 +1,4 @@
--- Writing a line into a lent part: the number of the paper and the values for each answer, and what is left of the part.
+-- Writing a line into a lent part: the paper's number and the values for each answer, and what is left of the part.
 use Prim.Native.Nat.{ℕ, _≤_}
 use mathlib.Core.Bool.{Bool}
 use mathlib.Core.Path.{_≡_}

@@ -1,4 +1,4 @@
--- The number of this paper for each answer of loading.
+-- The paper's number for each answer of loading.
 use Prim.Native.Nat.{ℕ}
 use Rattle.net.specs.declared.LoadAnswer.{LoadAnswer}
 use Rattle.net.specs.declared.LoadAnswer.the-variants.{Taken, Length, Layout, Size, PlaceKind, Ends, Arcs, ArcPlaces, TwoOfKind, Unreached}

@@ -1,4 +1,4 @@
--- The number of this paper for each answer of starting.
+-- The paper's number for each answer of starting.
 use Prim.Native.Nat.{ℕ}
 use Rattle.starting.specs.declared.StartAnswer.{StartAnswer}
 use Rattle.starting.specs.declared.StartAnswer.the-variants.{Taken, Number, Kind, NoRoom}

@@ -1,4 +1,4 @@
--- The number of this paper, and the values, for each answer of the reader.
+-- The paper's number, and the values, for each answer of the reader.
 use Prim.Native.Nat.{ℕ}
 use lib.ListN.{take, replicate}
 use lib.Dec.{eqb}
