@@ -99,6 +99,11 @@ module _ (w b : List ℕ) (l : Layout) (a : ℕ) (os : List ℕ) (K : Known w b 
   pub kinds-fit : (ks : List ℕ) → take (length os) ks ≡ kindsOf (stateAt b .kinds) os → length os ≤ length ks
   kinds-fit ks e = omega (arith, length-take (length os) ks, ap length e, kinds-length)
 
+  -- the jumps of the activity are one of the counts
+  pub own-in : (l .counts + (4 + 2 * a) < l .jumps) × (l .jumps ≤ 7461)
+  own-in =
+      (omega (arith, K .counted .act-in, placed .jumps-at), omega (arith, words-size w b l (K .counted .ready) (K .counted .lay), words-few w b l (K .counted .ready) (K .counted .lay)))
+
 -- the kind of an event's object, and its places
 module _ (w b : List ℕ) (l : Layout) (a : ℕ) (os : List ℕ) (M : Moving w b l a os) (i : ℕ) (h : i < length os) where
   abbrev kind : ℕ
@@ -118,7 +123,3 @@ module _ (w b : List ℕ) (l : Layout) (a : ℕ) (os : List ℕ) (M : Moving w b
 
   pub out-in : outputOf (netIn w) a kind < l .places
   out-in = omega (arith, arc-good .out, placed w b l a os (M .known) .places-are)
-
-  pub own-in : (l .counts + (4 + 2 * a) < l .jumps) × (l .jumps ≤ 7461)
-  own-in = let P = placed w b l a os (M .known) in
-      (omega (arith, M .known .counted .act-in, P .jumps-at), omega (arith, words-size w b l (M .known .counted .ready) (M .known .counted .lay), words-few w b l (M .known .counted .ready) (M .known .counted .lay)))

@@ -16,34 +16,34 @@ use Rattle.replay.specs.Record.{tableIn}
 use Rattle.replay.specs.Calls.{stateAt}
 use Rattle.replay.specs.Offsets.{layoutOf}
 use Rattle.replay.specs.Ready.{Ready}
-use Rattle.events.specs.Moves.{moveWords, numbersOf, sunkState}
+use Rattle.events.specs.Moves.{raise, jumpsTo, goWords, numbersOf, sunkState}
 use Rattle.replay.specs.declared.layout.Layout.{Layout}
 use Rattle.replay.proofs.Tally.{length-tally}
 use Rattle.replay.proofs.RecordLaws.{Placed, placed-same, withClosing, record-size, put-closed, ready-sound}
 use Rattle.events.proofs.Asked.{placed-at}
-use Rattle.events.proofs.Walk.{Walk, legState, walk-turn, close-counter}
+use Rattle.events.proofs.Walk.{Summing, legState, sum-turn, close-counter}
 use Rattle.events.proofs.Steps.{sunk-first}
 use Rattle.events.proofs.Taken.{length-walked}
 
--- the objects `os` are left to take from their sinks; then the state is `goal`
-pub record Sinking (N : Net) (table : List ℕ) (l : Layout) (b : ℕ) (ks os : List ℕ) (goal : State) (w : List ℕ) : Type 0 where
+-- the objects `os` are left to take from their sinks, and s jumps to add; then the state is `goal`
+pub record Sinking (N : Net) (table : List ℕ) (l : Layout) (b : ℕ) (ks os : List ℕ) (goal : State) (s : ℕ) (w : List ℕ) : Type 0 where
   pub state : State
-  pub walk : Walk N table l b state w
+  pub sum : Summing N table l b (l .counts + 2) s state w
   pub same : state .kinds ≡ ks
   pub left : sunkState N state os ≡ goal
 
 upto-first : (n o : ℕ) → o < n → upto (n - o) o ≡ o ∷ upto (n - (o + 1)) (o + 1)
 upto-first n o h = let e : n - o ≡ suc (n - (o + 1)) = omega arith in ap (λ (j : ℕ). upto j o) e ∙ ap (λ (i : ℕ). o ∷ upto (n - (o + 1)) i) (sym (add-one o))
 
-module _ (N : Net) (table : List ℕ) (l : Layout) (b : ℕ) (ks : List ℕ) (goal : State) (w : List ℕ) (n o : ℕ) (T : Sinking N table l b ks (upto (n - o) o) goal w) where
-  pub sink-turn : (c k : ℕ) → o < n → k ≡ getD ks o 0 → o < l .objects → N .sink k < l .places → b ≤ 4294967295 → b + 1 ≤ c
-      → Sinking N table l c ks (upto (n - (o + 1)) (o + 1)) goal (moveWords l (l .counts + 2) o (N .sink k) (N .sink k) w)
-  sink-turn c k h q ho hs few more =
+module _ (N : Net) (table : List ℕ) (l : Layout) (b : ℕ) (ks : List ℕ) (goal : State) (s : ℕ) (w : List ℕ) (n o : ℕ) (T : Sinking N table l b ks (upto (n - o) o) goal s w) where
+  pub sink-turn : (c k : ℕ) → o < n → k ≡ getD ks o 0 → o < l .objects → N .sink k < l .places → b + 1 ≤ c
+      → Sinking N table l c ks (upto (n - (o + 1)) (o + 1)) goal (s + jumpsTo l o (N .sink k) w) (goWords l o (N .sink k) (N .sink k) w)
+  sink-turn c k h q ho hs more =
       let d = T .state in
       let kd : k ≡ getD (d .kinds) o 0 = q ∙ ap (λ (x : List ℕ). getD x o 0) (sym (T .same)) in
       record {
         state = legState N (λ (e : State). withClosing e (suc (e .closing))) d o (N .sink k) (N .sink k);
-        walk = walk-turn N table l b c (l .counts + 2) _ d w o (N .sink k) (N .sink k) (T .walk) (close-counter N table l) (omega arith) (omega (arith, T .walk .placed .jumps-at)) ho hs hs few more;
+        sum = sum-turn N table l b c (l .counts + 2) s _ d w o (N .sink k) (N .sink k) (T .sum) (close-counter N table l) ho hs hs more;
         same = kinds-same (eqb (getD (d .places) o 0) (N .sink k));
         left = subst (λ (k : ℕ). sunkState N (legState N (λ (e : State). withClosing e (suc (e .closing))) d o (N .sink k) (N .sink k)) (upto (n - (o + 1)) (o + 1)) ≡ goal) (sym kd)
             (sunk-first N d o (upto (n - (o + 1)) (o + 1)) ∙ ap (sunkState N d) (sym (upto-first n o h)) ∙ T .left);
@@ -57,9 +57,9 @@ module _ (N : Net) (table : List ℕ) (l : Layout) (b : ℕ) (ks : List ℕ) (go
   nothing d = let z : d .closing + 0 ≡ d .closing = omega arith in
       ap {B = State} (λ (n : ℕ). record { kinds = d .kinds; places = d .places; closed = d .closed; events = d .events; closing = n; fired = d .fired; jumps = d .jumps; pairs = d .pairs }) z
 
-  pub sink-end : n ≤ o → w ≡ numbersOf table goal
+  pub sink-end : n ≤ o → raise w (l .counts + 2) s ≡ numbersOf table goal
   sink-end h = let z : n - o ≡ 0 = omega arith in
-      T .walk .words ∙ ap (numbersOf table) (sym (nothing (T .state)) ∙ sym (ap (λ (j : ℕ). sunkState N (T .state) (upto j o)) z) ∙ T .left)
+      T .sum .walk .words ∙ ap (numbersOf table) (sym (nothing (T .state)) ∙ sym (ap (λ (j : ℕ). sunkState N (T .state) (upto j o)) z) ∙ T .left)
 
 -- an open record: closed once its objects are on their sinks
 module _ (w b : List ℕ) (l : Layout) (R : Ready w b) (e : l ≡ layoutOf (netIn w) b) where

@@ -19,13 +19,13 @@ use Rattle.replay.specs.Record.{counts, tableIn}
 use Rattle.replay.specs.Calls.{stateAt}
 use Rattle.replay.specs.Offsets.{layoutOf}
 use Rattle.replay.specs.Ready.{Ready}
-use Rattle.events.specs.Moves.{moveWords, numbersOf, movedState, sunkState}
+use Rattle.events.specs.Moves.{raise, jumpsTo, goWords, numbersOf, movedState, sunkState}
 use Rattle.replay.specs.declared.layout.Layout.{Layout}
 use Rattle.replay.proofs.Interleave.{All-interleave}
 use Rattle.replay.proofs.Encode.{fired-le, jumps-le, pairs-le}
 use Rattle.replay.proofs.RecordLaws.{Placed, withJumps, withClosing, get-place, get-tail, ready-loaded, ready-sound, ready-words}
 use Rattle.events.proofs.Asked.{placed-at}
-use Rattle.events.proofs.Walk.{Walk, legState, walk-turn, act-counter}
+use Rattle.events.proofs.Walk.{Walk, Summing, legState, sum-turn, act-counter}
 
 -- the first object of an event, and of the close
 module _ (N : Net) (d : State) where
@@ -147,24 +147,23 @@ module _ (w b : List ℕ) (l : Layout) (R : Ready w b) (e : l ≡ layoutOf (netI
       far : (j i : ℕ) → j ≡ l .counts + i → getD (numbersOf (tableIn b) (stateAt b)) j 0 < 8001025
       far j i q = rw (q, get-tail (netIn w) (tableIn b) l (stateAt b) P i) (all-below 8001025 (counts (stateAt b) ++ stateAt b .pairs) (omega arith) tail-few i)
 
--- the objects `os` of an event are left to move; then the state is `goal`
-pub record Stepping (N : Net) (table : List ℕ) (l : Layout) (b a : ℕ) (ks os : List ℕ) (goal : State) (w : List ℕ) : Type 0 where
+-- the objects `os` of an event are left to move, and s jumps to add; then the state is `goal`
+pub record Stepping (N : Net) (table : List ℕ) (l : Layout) (b a : ℕ) (ks os : List ℕ) (goal : State) (s : ℕ) (w : List ℕ) : Type 0 where
   pub state : State
-  pub walk : Walk N table l b state w
+  pub sum : Summing N table l b (l .counts + (4 + 2 * a)) s state w
   pub same : state .kinds ≡ ks
   pub left : movedState N state a os ≡ goal
 
-module _ (N : Net) (table : List ℕ) (l : Layout) (b a : ℕ) (ks os : List ℕ) (goal : State) (w : List ℕ) (i : ℕ) (T : Stepping N table l b a ks (drop i os) goal w) where
-  pub step-turn : (c k : ℕ) → i < length os → k ≡ getD ks (getD os i 0) 0 → a < N .acts → getD os i 0 < l .objects → inputOf N a k < l .places → outputOf N a k < l .places → b ≤ 4294967295 → b + 1 ≤ c
-      → Stepping N table l c a ks (drop (i + 1) os) goal (moveWords l (l .counts + (4 + 2 * a)) (getD os i 0) (inputOf N a k) (outputOf N a k) w)
-  step-turn c k h q ha ho hi hq few more =
+module _ (N : Net) (table : List ℕ) (l : Layout) (b a : ℕ) (ks os : List ℕ) (goal : State) (s : ℕ) (w : List ℕ) (i : ℕ) (T : Stepping N table l b a ks (drop i os) goal s w) where
+  pub step-turn : (c k : ℕ) → i < length os → k ≡ getD ks (getD os i 0) 0 → a < N .acts → getD os i 0 < l .objects → inputOf N a k < l .places → outputOf N a k < l .places → b + 1 ≤ c
+      → Stepping N table l c a ks (drop (i + 1) os) goal (s + jumpsTo l (getD os i 0) (inputOf N a k) w) (goWords l (getD os i 0) (inputOf N a k) (outputOf N a k) w)
+  step-turn c k h q ha ho hi hq more =
       let d = T .state in
       let o = getD os i 0 in
       let kd : k ≡ getD (d .kinds) o 0 = q ∙ ap (λ (x : List ℕ). getD x o 0) (sym (T .same)) in
-      let v = walk-turn N table l b c (l .counts + (4 + 2 * a)) _ d w o (inputOf N a k) (outputOf N a k) (T .walk) (act-counter N table l a ha) (omega arith) (omega (arith, T .walk .placed .jumps-at)) ho hi hq few more in
       record {
         state = legState N (λ (e : State). withJumps e (bump (e .jumps) a)) d o (inputOf N a k) (outputOf N a k);
-        walk = v;
+        sum = sum-turn N table l b c (l .counts + (4 + 2 * a)) s _ d w o (inputOf N a k) (outputOf N a k) (T .sum) (act-counter N table l a ha) ho hi hq more;
         same = kinds-same (eqb (getD (d .places) o 0) (inputOf N a k));
         left = subst (λ (k : ℕ). movedState N (legState N (λ (e : State). withJumps e (bump (e .jumps) a)) d o (inputOf N a k) (outputOf N a k)) a (drop (i + 1) os) ≡ goal) (sym kd)
             (moved-first N d a o (drop (i + 1) os) ∙ rw add-one (ap (movedState N d a) (sym (drop-cons os i 0 h)) ∙ T .left));
@@ -174,5 +173,5 @@ module _ (N : Net) (table : List ℕ) (l : Layout) (b a : ℕ) (ks os : List ℕ
       kinds-same true = T .same
       kinds-same false = T .same
 
-  pub step-end : length os ≤ i → w ≡ numbersOf table goal
-  step-end h = T .walk .words ∙ ap (numbersOf table) (sym (ap (movedState N (T .state) a) (drop-of-length-le os h)) ∙ T .left)
+  pub step-end : length os ≤ i → raise w (l .counts + (4 + 2 * a)) s ≡ numbersOf table goal
+  step-end h = T .sum .walk .words ∙ ap (numbersOf table) (sym (ap (movedState N (T .state) a) (drop-of-length-le os h)) ∙ T .left)

@@ -54,13 +54,13 @@ module _ (w b : List ℕ) (l : Layout) (a : ℕ) (os : List ℕ) (M : Moving w b
   pub event-counted : bump (bump (numbersOf (tableIn b) m) (l .counts + 1)) (l .counts + (3 + 2 * a)) ≡ numbersOf (tableIn b) (afterEvent (netIn w) d (record { act = a; objs = os }))
   event-counted = ap (λ (v : List ℕ). bump v (l .counts + (3 + 2 * a))) events-more ∙ fired-more
 
-  pub can-events : CanAdd (l .counts + 1) (numbersOf (tableIn b) m)
+  pub can-events : CanAdd (l .counts + 1) 1 (numbersOf (tableIn b) m)
   can-events = record {
     inside = omega (arith, record-size (netIn w) (tableIn b) l m placed, placed .jumps-at);
     room = omega (arith, get-events (netIn w) (tableIn b) l m placed, ready-sound w b (M .known .counted .ready) .events);
   }
 
-  pub can-fired : CanAdd (l .counts + (3 + 2 * a)) (bump (numbersOf (tableIn b) m) (l .counts + 1))
+  pub can-fired : CanAdd (l .counts + (3 + 2 * a)) 1 (bump (numbersOf (tableIn b) m) (l .counts + 1))
   can-fired = let R = M .known .counted .ready in let h = M .known .counted .act-in in rw events-more (record {
     inside = omega (arith, record-size (netIn w) (tableIn b) l (withEvents m (suc (d .events))) placed-events, placed .jumps-at);
     room = omega (arith, get-fired (netIn w) (tableIn b) l (withEvents m (suc (d .events))) placed-events a h, fired-le (netIn w) (ready-loaded w b R) d (ready-sound w b R) a h);

@@ -1,6 +1,5 @@
 -- What moving objects does to a record, as a list of four-byte numbers and as a state, and what it asks of the record.
 use Prim.Native.Nat.{ℕ, _+_, _*_, _≤_, _<_}
-use mathlib.Core.Path.{_≡_}
 use mathlib.Core.List.{List, _++_, map}
 use lib.ListN.{length, getD, set}
 use lib.Dec.{eqb}
@@ -8,7 +7,7 @@ use Rattle.words.specs.Lists.{pick, keep}
 use Rattle.words.specs.Words.{wordsOf}
 use Rattle.net.specs.Net.{Net}
 use Rattle.replay.specs.Plain.{Hop, jumped, hops, walked, leg, ending}
-use Rattle.replay.specs.State.{State, bump, tally, hopIndex}
+use Rattle.replay.specs.State.{State, tally, hopIndex}
 use Rattle.replay.specs.Record.{counts, contents}
 use Rattle.replay.specs.declared.layout.Layout.{Layout}
 
@@ -23,30 +22,28 @@ placeAt l o = l .positions + o
 abbrev pub pairAt : Layout → ℕ → ℕ → ℕ
 pairAt l p q = l .jumps + (p * l .places + q)
 
--- a jump from p to q is counted at the pair and at number `own`; where p is q there is none
-unfoldable pub jumpWords : Layout → ℕ → ℕ → ℕ → List ℕ → List ℕ
-jumpWords l own p q w = pick (eqb p q) w (bump (bump w (pairAt l p q)) own)
+-- number i is d more
+abbrev pub raise : List ℕ → ℕ → ℕ → List ℕ
+raise w i d = set w i (getD w i 0 + d)
 
--- object o is sought on place `inp` and left on place `out`
-unfoldable pub moveWords : Layout → ℕ → ℕ → ℕ → ℕ → List ℕ → List ℕ
-moveWords l own o inp out w = set (jumpWords l own (getD w (placeAt l o) 0) inp w) (placeAt l o) out
+-- object o is sought on place `inp`: how many jumps lead it there, 1, and 0 where it stands there
+abbrev pub jumpsTo : Layout → ℕ → ℕ → List ℕ → ℕ
+jumpsTo l o inp w = pick (eqb (getD w (placeAt l o) 0) inp) 0 1
 
--- number i can be counted up
-pub record CanAdd (i : ℕ) (w : List ℕ) : Type 0 where
+-- the jump is counted at its pair, and the object is left on place `out`
+unfoldable pub goWords : Layout → ℕ → ℕ → ℕ → List ℕ → List ℕ
+goWords l o inp out w = set (raise w (pairAt l (getD w (placeAt l o) 0) inp) (jumpsTo l o inp w)) (placeAt l o) out
+
+-- number i can be d more
+pub record CanAdd (i d : ℕ) (w : List ℕ) : Type 0 where
   pub inside : i < length w
-  pub room : getD w i 0 < 4294967295
-
--- a jump can be counted
-pub record CanJump (l : Layout) (own p q : ℕ) (w : List ℕ) : Type 0 where
-  pub size : length w ≤ 7461
-  pub pair : CanAdd (pairAt l p q) w
-  pub own-can : CanAdd own w
-  pub apart : own ≡ pairAt l p q → ⊥
+  pub room : getD w i 0 + d < 4294967296
 
 -- an object can be moved
-pub record CanMove (l : Layout) (own o inp : ℕ) (w : List ℕ) : Type 0 where
+pub record CanMove (l : Layout) (o inp : ℕ) (w : List ℕ) : Type 0 where
+  pub size : length w ≤ 7461
   pub place : placeAt l o < length w
-  pub jump : CanJump l own (getD w (placeAt l o) 0) inp w
+  pub pair : CanAdd (pairAt l (getD w (placeAt l o) 0) inp) 1 w
 
 module _ (N : Net) where
   -- the objects of an event of activity a are moved, and the event is not counted yet

@@ -1,5 +1,6 @@
 // The close of a trail in lent bytes: refused with 31, or carried out in place.
 
+use crate::moves::add;
 use crate::moves::move_object;
 use replay::layout::Layout;
 use replay::layout::read_layout;
@@ -22,19 +23,21 @@ pub enum CloseAnswer {
     AlreadyClosed,
 }
 
-// Every object jumps to its sink where it is not there, and is taken from it.
+// Every object jumps to its sink where it is not there, and is taken from it; the jumps are added once, behind the last object.
 fn sink_objects(rec: &mut [u8], t: &[u32; 1684], lay: Layout)
     requires { ⌜ Ready (now t) (now rec) ⌝ }
     requires { ⌜ lay ≡ layoutOf (netIn (now t)) (now rec) ⌝ }
     ensures { λ _. ⌜ wordsOf (now (rec .exit)) ≡ numbersOf (tableIn (now (rec .entry))) (sunkState (netIn (now (t .entry))) (stateAt (now (rec .entry))) (upto (length (stateAt (now (rec .entry)) .kinds)) 0)) ⌝ }
 {
     let mut o = 0;
+    let mut jumps = 0u32;
     while o < lay.objects {
         let k = words::get_word(rec, lay.register + o) as usize;
         let sink = net::look::sink(t, k);
-        move_object(rec, lay, lay.counts + 2, o, sink, sink as u32);
+        jumps += move_object(rec, lay, o, sink, sink as u32);
         o += 1;
     }
+    add(rec, lay.counts + 2, jumps);
 }
 
 // Closes a trail: it is closed already and nothing changes, or it is closed in the record's bytes.

@@ -1,5 +1,6 @@
 // An event on a trail in lent bytes: refused with the first number from 21 to 27 that applies, or carried out in place.
 
+use crate::moves::add;
 use crate::moves::add_one;
 use crate::moves::move_object;
 use replay::kinds::two_of_kind;
@@ -121,20 +122,22 @@ fn refuse(rec: &[u8], t: &[u32; 1684], lay: Layout, act: usize, objs: &[u32]) ->
     refuse_objects(rec, t, lay, act, objs)
 }
 
-// Every object of the event jumps where it has to, and is moved.
+// Every object of the event jumps where it has to, and is moved; the activity's jumps are added once, behind the last object.
 fn step_objects(rec: &mut [u8], t: &[u32; 1684], lay: Layout, act: usize, objs: &[u32])
     requires { ⌜ Moving (now t) (now rec) lay act (now objs) ⌝ }
     ensures { λ _. ⌜ wordsOf (now (rec .exit)) ≡ numbersOf (tableIn (now (rec .entry))) (movedState (netIn (now (t .entry))) (stateAt (now (rec .entry))) act (now (objs .entry))) ⌝ }
 {
     let mut done = 0;
+    let mut jumps = 0u32;
     while done < objs.len() {
         let o = words::wide(objs[done]);
         let k = words::wide(words::get_word(rec, lay.register + o));
         let inp = net::look::input(t, act, k);
         let out = net::look::output(t, act, k) as u32;
-        move_object(rec, lay, lay.counts + (4 + 2 * act), o, inp, out);
+        jumps += move_object(rec, lay, o, inp, out);
         done += 1;
     }
+    add(rec, lay.counts + (4 + 2 * act), jumps);
 }
 
 // An event to which none of 21 to 27 applies is carried out and counted.

@@ -2,19 +2,17 @@
 
 use replay::layout::Layout;
 ghost use mathlib.Core.Path.{_≡_};
-ghost use Prim.Native.Nat.{_+_, _≤_};
-ghost use lib.ListN.{getD, set};
+ghost use Prim.Native.Nat.{_≤_};
 ghost use lib.Dec.{eqb};
 ghost use Rattle.words.specs.Lists.{pick};
 ghost use Rattle.words.specs.Words.{wordsOf};
 ghost use Rattle.replay.specs.State.{bump};
-ghost use Rattle.events.specs.Moves.{jumpWords, moveWords, CanAdd, CanJump, CanMove};
+ghost use Rattle.events.specs.Moves.{raise, jumpsTo, goWords, CanAdd, CanMove};
 
-// Number i of the record is d more, which is 0 or 1.
-fn add(rec: &mut [u8], i: usize, d: u32)
-    requires { ⌜ CanAdd i (wordsOf (now rec)) ⌝ }
-    requires { ⌜ d ≤ 1 ⌝ }
-    ensures { λ _. ⌜ wordsOf (now (rec .exit)) ≡ set (wordsOf (now (rec .entry))) i (getD (wordsOf (now (rec .entry))) i 0 + d) ⌝ }
+// Number i of the record is d more.
+pub fn add(rec: &mut [u8], i: usize, d: u32)
+    requires { ⌜ CanAdd i d (wordsOf (now rec)) ⌝ }
+    ensures { λ _. ⌜ wordsOf (now (rec .exit)) ≡ raise (wordsOf (now (rec .entry))) i d ⌝ }
 {
     let x = words::get_word(rec, i);
     words::put_word(rec, i, x + d);
@@ -22,7 +20,7 @@ fn add(rec: &mut [u8], i: usize, d: u32)
 
 // Number i of the record is one more.
 pub fn add_one(rec: &mut [u8], i: usize)
-    requires { ⌜ CanAdd i (wordsOf (now rec)) ⌝ }
+    requires { ⌜ CanAdd i 1 (wordsOf (now rec)) ⌝ }
     ensures { λ _. ⌜ wordsOf (now (rec .exit)) ≡ bump (wordsOf (now (rec .entry))) i ⌝ }
 {
     add(rec, i, 1);
@@ -38,24 +36,16 @@ fn jumps(p: usize, q: usize) -> u32
     1
 }
 
-// A jump from p to q, where they differ, is counted at the pair and at number `own`. Where they do not, 0 is added: whether
-// an object jumps cannot be foretold, so that a branch would cost more.
-fn count_jump(rec: &mut [u8], lay: Layout, own: usize, p: usize, q: usize)
-    requires { ⌜ CanJump lay own p q (wordsOf (now rec)) ⌝ }
-    ensures { λ _. ⌜ wordsOf (now (rec .exit)) ≡ jumpWords lay own p q (wordsOf (now (rec .entry))) ⌝ }
-{
-    let d = jumps(p, q);
-    add(rec, lay.jumps + (p * lay.places + q), d);
-    add(rec, own, d);
-}
-
-// Object o is sought on place `inp` and left on place `out`; a jump is counted at number `own` too.
-pub fn move_object(rec: &mut [u8], lay: Layout, own: usize, o: usize, inp: usize, out: u32)
-    requires { ⌜ CanMove lay own o inp (wordsOf (now rec)) ⌝ }
-    ensures { λ _. ⌜ wordsOf (now (rec .exit)) ≡ moveWords lay own o inp out (wordsOf (now (rec .entry))) ⌝ }
+// Object o is sought on place `inp` and left on place `out`. The jumps that lead it there, 0 or 1, are counted at the pair
+// and returned. Where there is none, 0 is added: whether an object jumps cannot be foretold, so that a branch would cost more.
+pub fn move_object(rec: &mut [u8], lay: Layout, o: usize, inp: usize, out: u32) -> u32
+    requires { ⌜ CanMove lay o inp (wordsOf (now rec)) ⌝ }
+    ensures { λ r. ⌜ (wordsOf (now (rec .exit)) ≡ goWords lay o inp out (wordsOf (now (rec .entry)))) × (r ≡ jumpsTo lay o inp (wordsOf (now (rec .entry)))) × (r ≤ 1) ⌝ }
 {
     let p = lay.positions + o;
     let at = words::get_word(rec, p) as usize;
-    count_jump(rec, lay, own, at, inp);
+    let d = jumps(at, inp);
+    add(rec, lay.jumps + (at * lay.places + inp), d);
     words::put_word(rec, p, out);
+    d
 }

@@ -1,4 +1,4 @@
--- `step_objects` meets its contract: the record's numbers are those of a state from which the objects left lead to the state sought. Assumes nothing.
+-- `step_objects` meets its contract: with the sum of the jumps added, the record's numbers are those of a state from which the objects left lead to the state sought. Assumes nothing.
 use borrow.Author.Needs.{needs}
 use Prim.Native.Nat.{ℕ, _+_, _≤_, _<_, _-_}
 use mathlib.Core.Path.{_≡_, refl, ap, _∙_}
@@ -10,18 +10,18 @@ use Rattle.replay.specs.Record.{tableIn}
 use Rattle.replay.specs.Calls.{stateAt}
 use Rattle.events.specs.Moves.{movedState}
 use Rattle.events.proofs.Asked.{few-objects, object-in, own-kind-in, own-kind-taken, inp-in, out-in, own-in, placed-at}
-use Rattle.events.proofs.Walk.{can-move, walk-few, register-in, register-kind}
+use Rattle.events.proofs.Walk.{sum-start, sum-few, register-in, register-kind, can-add-sum, can-move}
 use Rattle.events.proofs.Steps.{Stepping, walk-start, step-turn, step-end}
 use Rattle.events.proofs.event.step_objects.Statement.{statement}
 use Rattle.events.proofs.event.step_objects.Tie as tie
 
 abbrev Inv-loop : tie.InvT-loop
-Inv-loop rec₀ t lay act objs done₀ rec done =
-    (done ≤ length objs) × (length rec ≡ length rec₀)
-    × Stepping (netIn t) (tableIn rec₀) lay (8001025 + done) act (stateAt rec₀ .kinds) (drop done objs) (movedState (netIn t) (stateAt rec₀) act objs) (wordsOf rec)
+Inv-loop rec₀ t lay act objs done₀ jumps₀ rec done jumps =
+    (done ≤ length objs) × (jumps ≤ done) × (length rec ≡ length rec₀)
+    × Stepping (netIn t) (tableIn rec₀) lay (8001025 + done) act (stateAt rec₀ .kinds) (drop done objs) (movedState (netIn t) (stateAt rec₀) act objs) jumps (wordsOf rec)
 
 abbrev μ-loop : tie.MeasureT-loop
-μ-loop rec₀ t lay act objs done₀ rec done = length objs - done
+μ-loop rec₀ t lay act objs done₀ jumps₀ rec done jumps = length objs - done
 
 -- the object is in the register, and the kind read there is its own
 known-at : (c : tie.After-wide Inv-loop μ-loop) → c .wide .result < c .before .before .before .before .before .before .args .lay .objects
@@ -31,7 +31,7 @@ kind-at : (c : tie.After-wide2 Inv-loop μ-loop) → c .wide2 .result ≡ getD (
 kind-at c =
     let l = c .before .before .before .before .before .before .before .loop in let s = c .before .before .before .before .before .before .before .before .before .before in
     c .wide2 .ensures ∙ c .before .get-word .ensures ∙ ap (λ (o : ℕ). getD (wordsOf (l .rec)) (s .args .lay .register + o) 0) (c .before .before .before .before .wide .ensures)
-    ∙ register-kind _ _ _ _ _ _ (l .inv .2 .walk) _ (l .inv .2 .same) (getD (s .args .objs .now) (l .done) 0) (object-in _ _ _ _ _ (s .pre .known) (l .done) (c .before .before .before .before .before .before .loop-test .taken))
+    ∙ register-kind _ _ _ _ _ _ _ _ (l .inv .3 .sum) _ (l .inv .3 .same) (getD (s .args .objs .now) (l .done) 0) (object-in _ _ _ _ _ (s .pre .known) (l .done) (c .before .before .before .before .before .before .loop-test .taken))
 
 -- its places are known
 inp-at : (c : tie.After-input Inv-loop μ-loop) → c .input .result < c .before .before .before .before .before .before .before .before .before .before .before .args .lay .places
@@ -41,7 +41,7 @@ out-at : (c : tie.After-output Inv-loop μ-loop) → c .output .result < c .befo
 out-at c = rw (c .output .ensures, kind-at (c .before .before)) (out-in _ _ _ _ _ (c .before .before .before .before .before .before .before .before .before .before .before .before .pre) (c .before .before .before .before .before .before .before .before .before .loop .done) (c .before .before .before .before .before .before .before .before .loop-test .taken))
 
 loop-holds : tie.Need-loop-holds Inv-loop μ-loop
-loop-holds c = let s = c .before .before in (omega arith, refl, record { state = stateAt (s .args .rec .now); walk = walk-start _ _ _ (s .pre .known .counted .ready) (s .pre .known .counted .lay); same = refl; left = refl })
+loop-holds c = let s = c .before .before in (omega arith, omega arith, refl, record { state = stateAt (s .args .rec .now); sum = sum-start _ _ _ _ _ _ _ (walk-start _ _ _ (s .pre .known .counted .ready) (s .pre .known .counted .lay)) (omega arith) (own-in _ _ _ _ _ (s .pre .known) .0); same = refl; left = refl })
 
 mul-wide : tie.Need-mul-wide Inv-loop μ-loop
 mul-wide c = search needs
@@ -53,10 +53,10 @@ wide-requires : tie.Need-wide-requires Inv-loop μ-loop
 wide-requires c κs = search needs
 
 add-get-word : tie.Need-add-get-word Inv-loop μ-loop
-add-get-word c = let l = c .before .before .before .before .before .loop in omega (arith, register-in _ _ _ _ _ _ (l .inv .2 .walk) (c .before .before .wide .result) (known-at (c .before .before)), walk-few _ _ _ _ _ _ (l .inv .2 .walk))
+add-get-word c = let l = c .before .before .before .before .before .loop in omega (arith, register-in _ _ _ _ _ _ _ _ (l .inv .3 .sum) (c .before .before .wide .result) (known-at (c .before .before)), sum-few _ _ _ _ _ _ _ _ (l .inv .3 .sum))
 
 get-word-requires : tie.Need-get-word-requires Inv-loop μ-loop
-get-word-requires c κs = register-in _ _ _ _ _ _ (c .before .before .before .before .before .loop .inv .2 .walk) (c .before .before .wide .result) (known-at (c .before .before))
+get-word-requires c κs = register-in _ _ _ _ _ _ _ _ (c .before .before .before .before .before .loop .inv .3 .sum) (c .before .before .wide .result) (known-at (c .before .before))
 
 wide-requires-2 : tie.Need-wide-requires-2 Inv-loop μ-loop
 wide-requires-2 c κs = search needs
@@ -72,38 +72,46 @@ output-requires c κs = let s = c .before .before .before .before .before .befor
 cast-out : tie.Need-cast-out Inv-loop μ-loop
 cast-out c = let s = c .before .before .before .before .before .before .before .before .before .before .before .before in omega (arith, out-at c, placed-at _ _ _ (s .pre .known .counted .ready) (s .pre .known .counted .lay) .places-few)
 
-mul-move-object : tie.Need-mul-move-object Inv-loop μ-loop
-mul-move-object c = omega (arith, own-in _ _ _ _ _ (c .before .before .before .before .before .before .before .before .before .before .before .before .before .pre) (c .before .before .before .before .before .before .before .before .before .before .loop .done) (c .before .before .before .before .before .before .before .before .before .loop-test .taken))
-
-add-move-object : tie.Need-add-move-object Inv-loop μ-loop
-add-move-object c = omega (arith, own-in _ _ _ _ _ (c .before .before .before .before .before .before .before .before .before .before .before .before .before .pre) (c .before .before .before .before .before .before .before .before .before .before .loop .done) (c .before .before .before .before .before .before .before .before .before .loop-test .taken))
-
-add-move-object-2 : tie.Need-add-move-object-2 Inv-loop μ-loop
-add-move-object-2 c = omega (arith, own-in _ _ _ _ _ (c .before .before .before .before .before .before .before .before .before .before .before .before .before .before .pre) (c .before .before .before .before .before .before .before .before .before .before .before .loop .done) (c .before .before .before .before .before .before .before .before .before .before .loop-test .taken))
-
 move-object-requires : tie.Need-move-object-requires Inv-loop μ-loop
-move-object-requires c κs = let s = c .before .before .before .before .before .before .before .before .before .before .before .before .before .before in let l = c .before .before .before .before .before .before .before .before .before .before .before .loop in
-    can-move _ _ _ (8001025 + l .done) _ _ (l .inv .2 .walk) _ _ _ (omega arith) (own-in _ _ _ _ _ (s .pre) (l .done) (c .before .before .before .before .before .before .before .before .before .before .loop-test .taken) .0) (known-at (c .before .before .before .before .before .before .before .before)) (inp-at (c .before .before .before)) (omega (arith, few-objects _ _ _ _ _ (s .pre .known .counted)))
+move-object-requires c κs = let s = c .before .before .before .before .before .before .before .before .before .before .before .before .before in let l = c .before .before .before .before .before .before .before .before .before .before .loop in
+    can-move _ _ _ (8001025 + l .done) _ _ _ _ (l .inv .3 .sum) _ _ (known-at (c .before .before .before .before .before .before .before)) (inp-at (c .before .before)) (omega (arith, few-objects _ _ _ _ _ (s .pre .known .counted)))
+
+add-jumps : tie.Need-add-jumps Inv-loop μ-loop
+add-jumps c = omega (arith, c .before .before .move-object .ensures .2, c .before .before .before .before .before .before .before .before .before .before .before .before .before .loop .inv .1, c .before .before .before .before .before .before .before .before .before .before .before .before .loop-test .taken, few-objects _ _ _ _ _ (c .before .before .before .before .before .before .before .before .before .before .before .before .before .before .before .before .pre .known .counted))
 
 add-done : tie.Need-add-done Inv-loop μ-loop
-add-done c = omega (arith, c .before .before .before .before .before .before .before .before .before .before .before .before .before .loop-test .taken, few-objects _ _ _ _ _ (c .before .before .before .before .before .before .before .before .before .before .before .before .before .before .before .before .before .pre .known .counted))
+add-done c = omega (arith, c .before .before .before .before .before .before .before .before .before .before .before .before .loop-test .taken, few-objects _ _ _ _ _ (c .before .before .before .before .before .before .before .before .before .before .before .before .before .before .before .before .pre .known .counted))
 
 loop-less : tie.Need-loop-less Inv-loop μ-loop
 loop-less c = search needs
 
 loop-again : tie.Need-loop-again Inv-loop μ-loop
-loop-again c = let s = c .before .before .before .before .before .before .before .before .before .before .before .before .before .before .before .before .before in let l = c .before .before .before .before .before .before .before .before .before .before .before .before .before .before .loop in let h = c .before .before .before .before .before .before .before .before .before .before .before .before .before .loop-test .taken in let i = c .before .before .before .before .before .before in let o = c .before .before .before .before .before in (
+loop-again c = let s = c .before .before .before .before .before .before .before .before .before .before .before .before .before .before .before .before in let l = c .before .before .before .before .before .before .before .before .before .before .before .before .before .loop in let h = c .before .before .before .before .before .before .before .before .before .before .before .before .loop-test .taken in let i = c .before .before .before .before .before in let o = c .before .before .before .before in let m = c .before .before .move-object in (
   omega arith,
+  omega (arith, m .ensures .2),
   omega arith,
-  rw (c .before .before .move-object .ensures, i .input .ensures, o .output .ensures, c .before .before .before .before .before .before .before .before .before .before .before .wide .ensures)
-      (step-turn _ _ _ (8001025 + l .done) _ _ _ _ _ (l .done) (l .inv .2) (8001025 + (l .done + 1)) (c .before .before .before .before .before .before .before .wide2 .result) h (kind-at (c .before .before .before .before .before .before .before)) (s .pre .known .counted .act-in) (object-in _ _ _ _ _ (s .pre .known) (l .done) h) (rw (i .input .ensures) at (inp-at i)) (rw (o .output .ensures) at (out-at o)) (omega (arith, few-objects _ _ _ _ _ (s .pre .known .counted))) (omega arith)),
+  rw (m .ensures .0, m .ensures .1, i .input .ensures, o .output .ensures, c .before .before .before .before .before .before .before .before .before .before .wide .ensures)
+      (step-turn _ _ _ (8001025 + l .done) _ _ _ _ _ _ (l .done) (l .inv .3) (8001025 + (l .done + 1)) (c .before .before .before .before .before .before .wide2 .result) h (kind-at (c .before .before .before .before .before .before)) (s .pre .known .counted .act-in) (object-in _ _ _ _ _ (s .pre .known) (l .done) h) (rw (i .input .ensures) at (inp-at i)) (rw (o .output .ensures) at (out-at o)) (omega arith)),
 )
 
+mul-add : tie.Need-mul-add Inv-loop μ-loop
+mul-add c = omega (arith, own-in _ _ _ _ _ (c .before .before .before .before .before .pre .known))
+
+add-add : tie.Need-add-add Inv-loop μ-loop
+add-add c = omega (arith, own-in _ _ _ _ _ (c .before .before .before .before .before .pre .known))
+
+add-add-2 : tie.Need-add-add-2 Inv-loop μ-loop
+add-add-2 c = omega (arith, own-in _ _ _ _ _ (c .before .before .before .before .before .before .pre .known))
+
+add-requires : tie.Need-add-requires Inv-loop μ-loop
+add-requires c κs = let s = c .before .before .before .before .before .before in let l = c .before .before .before .loop in
+    can-add-sum _ _ _ (8001025 + l .done) _ _ _ _ (l .inv .3 .sum) (omega (arith, l .inv .0, few-objects _ _ _ _ _ (s .pre .known .counted)))
+
 same-length : tie.Need-same-length Inv-loop μ-loop
-same-length c = c .before .loop .inv .1
+same-length c = search needs
 
 returns : tie.Need-returns Inv-loop μ-loop
-returns c = step-end _ _ _ _ _ _ _ _ _ (c .before .loop .done) (c .before .loop .inv .2) (c .loop-test .left)
+returns c = c .before .before .add .ensures ∙ step-end _ _ _ _ _ _ _ _ _ _ (c .before .before .before .before .before .before .loop .done) (c .before .before .before .before .before .before .loop .inv .3) (c .before .before .before .before .before .loop-test .left)
 
 pub step-objects-spec : {M : Type 1} → statement M
 step-objects-spec =
@@ -121,12 +129,14 @@ step-objects-spec =
     input-requires
     output-requires
     cast-out
-    mul-move-object
-    add-move-object
-    add-move-object-2
     move-object-requires
+    add-jumps
     add-done
     loop-less
     loop-again
+    mul-add
+    add-add
+    add-add-2
+    add-requires
     same-length
     returns)
