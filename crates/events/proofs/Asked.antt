@@ -1,25 +1,28 @@
 -- An event put to a record: the layout fits, its objects are in the register, and their kinds are read there. Assumes nothing.
-use Prim.Native.Nat.{ℕ, _+_, _*_, _≤_, _<_}
+use Prim.Native.Nat.{ℕ, _+_, _-_, _*_, _≤_, _<_}
 use mathlib.Core.Bool.{true}
 use mathlib.Core.Path.{_≡_, ap, sym, _∙_, subst}
-use mathlib.Core.List.{List}
+use mathlib.Core.List.{List, [], _∷_, _++_, append-assoc}
 use native.Mathlib.Omega.{arith}
+use native.Mathlib.Numerals.{add-one}
 use native.Mathlib.Decide.{ℕ-discrete}
-use lib.ListN.{length, getD, set, take, length-map, length-take}
-use lib.Seq.{getD-take, getD-set-same, getD-set-other, ext-getD}
-use Rattle.words.specs.Words.{wordsOf}
-use Rattle.words.proofs.Lists.{All-at, map-at}
+use lib.ListN.{length, getD, set, take, drop, length-map, length-take, length-append}
+use lib.Seq.{take-all, take-suc, take-suc-set, take-at, drop-at, getD-take, getD-set-same, getD-set-other, ext-getD}
+use Rattle.words.specs.Words.{wordsOf, bytesOf}
+use Rattle.words.proofs.Lists.{All-at, map-at, map-append}
+use Rattle.words.proofs.Words.{length-words, length-bytes, words-of-bytes}
 use Rattle.net.specs.Net.{GoodArc, takes, inputOf, outputOf}
 use Rattle.net.specs.Held.{netIn}
 use Rattle.net.proofs.IndexLaws.{arc-has}
 use Rattle.replay.specs.Plain.{kindsOf}
-use Rattle.replay.specs.Record.{tableIn}
-use Rattle.replay.specs.Calls.{stateAt}
+use Rattle.replay.specs.Record.{counts, contents, encode, tableIn, stateIn}
+use Rattle.replay.specs.Calls.{netAt, stateAt}
 use Rattle.replay.specs.Offsets.{layoutOf}
 use Rattle.replay.specs.Ready.{Ready}
-use Rattle.events.specs.Answers.{Counted, Known, Moving}
+use Rattle.events.specs.Answers.{Counted, Known, Moving, Kinds}
 use Rattle.replay.specs.declared.layout.Layout.{Layout}
-use Rattle.replay.proofs.RecordLaws.{Placed, record-size, record-few, get-kind, get-closed, get-events, ready-loaded, ready-sound, ready-words, ready-placed}
+use Rattle.replay.proofs.Encode.{fit-kinds}
+use Rattle.replay.proofs.RecordLaws.{Placed, record-size, record-few, get-kind, get-closed, get-events, ready-loaded, ready-sound, ready-words, ready-placed, ready-length}
 
 -- numbers that are kept one by one
 pub set-more : (ks xs : List ℕ) (i v : ℕ) → i < length ks → v ≡ getD xs i 0 → ((j : ℕ) → j < i → getD ks j 0 ≡ getD xs j 0) → (j : ℕ) → j < i + 1 → getD (set ks i v) j 0 ≡ getD xs j 0
@@ -28,6 +31,15 @@ set-more ks xs i v h e f j l = go (ℕ-discrete j i)
     go : Dec (j ≡ i) → getD (set ks i v) j 0 ≡ getD xs j 0
     go (yes q) = rw q (getD-set-same ks i v 0 h ∙ e)
     go (no m) = getD-set-other ks i j v 0 m ∙ f j (omega arith)
+
+-- kinds read one by one
+module _ (rs os : List ℕ) where
+  pub kinds-more : (ks : List ℕ) (i v : ℕ) → i < length ks → i < length os → v ≡ getD rs (getD os i 0) 0 → take i ks ≡ kindsOf rs (take i os) → take (i + 1) (set ks i v) ≡ kindsOf rs (take (i + 1) os)
+  kinds-more ks i v h g e q =
+      rw add-one (take-suc-set ks i v h ∙ rw (q, e, take-suc os i 0 g) (sym (map-append (λ (o : ℕ). getD rs o 0) (take i os) (getD os i 0 ∷ []))))
+
+  pub kinds-all : (ks : List ℕ) (i : ℕ) → i ≡ length os → take i ks ≡ kindsOf rs (take i os) → take (length os) ks ≡ kindsOf rs os
+  kinds-all ks i e q = ap (λ (n : ℕ). take n ks) (sym e) ∙ q ∙ ap (kindsOf rs) (take-all i os (omega arith))
 
 -- the layout, and how many numbers there are
 module _ (w b : List ℕ) (l : Layout) (R : Ready w b) (e : l ≡ layoutOf (netIn w) b) where
@@ -54,6 +66,23 @@ module _ (w b : List ℕ) (l : Layout) (R : Ready w b) (e : l ≡ layoutOf (netI
 
   pub events-read : getD (wordsOf b) (l .counts + 1) 0 ≡ stateAt b .events
   events-read = ap (λ (v : List ℕ). getD v (l .counts + 1) 0) (ready-words w b R) ∙ get-events (netIn w) (tableIn b) l (stateAt b) placed-at
+
+  -- the register's bytes, and the kinds that they hold
+  pub register-fits : (4 * l .register ≤ 4 * l .positions) × (4 * l .positions ≤ length b) × (length b ≤ 29844)
+  register-fits = omega (arith, words-size, words-few, ready-length w b R, placed-at .positions-at, placed-at .counts-at, placed-at .jumps-at)
+
+  pub register-words : wordsOf (take (4 * l .positions - 4 * l .register) (drop (4 * l .register) b)) ≡ stateAt b .kinds
+  unfolding encode stateAt
+  register-words =
+      let d = stateIn (netAt b) b in
+      let front : List ℕ = bytesOf (contents (tableIn b) d) ++ tableIn b in
+      let rest : List ℕ = bytesOf (d .places) ++ (bytesOf (counts d) ++ bytesOf (d .pairs)) in
+      let n : length front ≡ 4 * l .register = simp (length-append, length-bytes) (omega (arith, placed-at .register-at, length-words (tableIn b), R .whole)) in
+      let m : length (bytesOf (d .kinds)) ≡ 4 * l .positions - 4 * l .register = omega (arith, length-bytes (d .kinds), placed-at .positions-at, placed-at .kinds-size) in
+      let e : b ≡ front ++ (bytesOf (d .kinds) ++ rest) = R .intact .bytes ∙ sym (append-assoc (bytesOf (contents (tableIn b) d)) (tableIn b) _) in
+      ap (λ (s : List ℕ). wordsOf (take (4 * l .positions - 4 * l .register) s)) (ap (drop (4 * l .register)) e ∙ drop-at front (bytesOf (d .kinds) ++ rest) (4 * l .register) n)
+      ∙ ap wordsOf (take-at (bytesOf (d .kinds)) rest _ m)
+      ∙ words-of-bytes (d .kinds) (fit-kinds (netIn w) (ready-loaded w b R) (stateAt b) (ready-sound w b R))
 
   -- an object's kind, and its sink
   pub kind-of-in : (o : ℕ) → o < l .objects → getD (stateAt b .kinds) o 0 < netIn w .kinds
@@ -95,6 +124,10 @@ module _ (w b : List ℕ) (l : Layout) (a : ℕ) (os : List ℕ) (K : Known w b 
   kinds-kept ks e f =
       let n : length (take (length os) ks) ≡ length os = simp length-take (omega (arith, few-objects w b l a os (K .counted))) in
       ext-getD 0 (take (length os) ks) (kindsOf (stateAt b .kinds) os) (n ∙ sym kinds-length) (λ i h. getD-take (length os) ks i 0 (omega arith) ∙ f i (omega arith))
+
+  -- of the kinds kept, each is the object's own
+  pub kind-kept : (ks : List ℕ) → Kinds b os ks → (i : ℕ) → i < length os → getD ks i 0 ≡ getD (stateAt b .kinds) (getD os i 0) 0
+  kind-kept ks e i h = sym (getD-take (length os) ks i 0 h) ∙ ap (λ (v : List ℕ). getD v i 0) e ∙ kind-is i h
 
   pub kinds-fit : (ks : List ℕ) → take (length os) ks ≡ kindsOf (stateAt b .kinds) os → length os ≤ length ks
   kinds-fit ks e = omega (arith, length-take (length os) ks, ap length e, kinds-length)

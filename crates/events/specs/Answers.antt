@@ -3,7 +3,7 @@ use Prim.Native.Nat.{ℕ, _<_}
 use mathlib.Core.Bool.{true}
 use mathlib.Core.Path.{_≡_}
 use mathlib.Core.List.{List}
-use lib.ListN.{length}
+use lib.ListN.{length, take}
 use Rattle.words.specs.Lists.{All}
 use Rattle.net.specs.Net.{takes}
 use Rattle.net.specs.Held.{netIn}
@@ -54,3 +54,7 @@ pub record Known (w b : List ℕ) (l : Layout) (a : ℕ) (os : List ℕ) : Type 
 pub record Moving (w b : List ℕ) (l : Layout) (a : ℕ) (os : List ℕ) : Type 0 where
   pub known : Known w b l a os
   pub taken : All (λ (k : ℕ). takes (netIn w) a k ≡ true) (kindsOf (stateAt b .kinds) os)
+
+-- the first of the numbers ks are the objects' kinds
+abbrev pub Kinds : List ℕ → List ℕ → List ℕ → Type 0
+Kinds b os ks = take (length os) ks ≡ kindsOf (stateAt b .kinds) os

@@ -8,10 +8,10 @@ use replay::layout::Layout;
 use replay::layout::read_layout;
 ghost use mathlib.Core.Path.{_≡_};
 ghost use mathlib.Core.Bool.{false, not};
-ghost use Prim.Native.Nat.{ℕ, _<_};
+ghost use Prim.Native.Nat.{ℕ, _≤_, _<_};
 ghost use lib.ListN.{length, take};
 ghost use lib.Dec.{leb};
-ghost use Rattle.words.specs.Lists.{any};
+ghost use Rattle.words.specs.Lists.{All, any};
 ghost use Rattle.words.specs.Refusals.{first};
 ghost use Rattle.words.specs.Words.{wordsOf};
 ghost use Rattle.net.specs.Net.{takes};
@@ -23,7 +23,7 @@ ghost use Rattle.replay.specs.Calls.{stateAt, askCode, askBytes};
 ghost use Rattle.replay.specs.Offsets.{layoutOf};
 ghost use Rattle.replay.specs.Ready.{Ready};
 ghost use Rattle.events.specs.Moves.{numbersOf, movedState};
-ghost use Rattle.events.specs.Answers.{eventCode, askEvent, Counted, Known, Moving};
+ghost use Rattle.events.specs.Answers.{eventCode, askEvent, Counted, Known, Moving, Kinds};
 
 // The answer to an event. `eventCode` gives document 01's number.
 pub enum EventAnswer {
@@ -83,29 +83,46 @@ fn foreign(
     false
 }
 
-// 25 to 27: the tests of an event's objects.
-fn refuse_objects(rec: &[u8], t: &[u32; 1684], lay: Layout, act: usize, objs: &[u32]) -> EventAnswer
+// 25 to 27: the tests of an event's objects. Where none applies, their kinds are put into `kinds`.
+fn refuse_objects(
+    rec: &[u8],
+    t: &[u32; 1684],
+    lay: Layout,
+    act: usize,
+    objs: &[u32],
+    kinds: &mut [u32; 8],
+) -> EventAnswer
     requires { ⌜ Counted (now t) (now rec) lay act (now objs) ⌝ }
-    ensures { λ r. ⌜ eventCode r ≡ first (objectTests (netIn (now (t .entry))) (stateAt (now (rec .entry)) .kinds) act (now (objs .entry))) ⌝ }
+    requires { ⌜ length (now kinds) ≡ 8 ⌝ }
+    ensures code { λ r. ⌜ eventCode r ≡ first (objectTests (netIn (now (t .entry))) (stateAt (now (rec .entry)) .kinds) act (now (objs .entry))) ⌝ }
+    ensures kinds { λ r. ⌜ (eventCode r ≡ 0 → Kinds (now (rec .entry)) (now (objs .entry)) (now (kinds .exit))) ⌝ }
 {
     if unknown(lay.objects, objs) {
         return EventAnswer::Object;
     }
-    let mut kinds = [0u32; 8];
-    if foreign(rec, t, lay, act, objs, &mut kinds) {
+    if foreign(rec, t, lay, act, objs, kinds) {
         return EventAnswer::Kind;
     }
-    if two_of_kind(&kinds, objs.len()) {
+    if two_of_kind(kinds, objs.len()) {
         return EventAnswer::TwoOfKind;
     }
     EventAnswer::Taken
 }
 
-// 21 to 27: the first that applies.
-fn refuse(rec: &[u8], t: &[u32; 1684], lay: Layout, act: usize, objs: &[u32]) -> EventAnswer
+// 21 to 27: the first that applies. Where none does, the objects' kinds are put into `kinds`.
+fn refuse(
+    rec: &[u8],
+    t: &[u32; 1684],
+    lay: Layout,
+    act: usize,
+    objs: &[u32],
+    kinds: &mut [u32; 8],
+) -> EventAnswer
     requires { ⌜ Ready (now t) (now rec) ⌝ }
     requires { ⌜ lay ≡ layoutOf (netIn (now t)) (now rec) ⌝ }
-    ensures { λ r. ⌜ eventCode r ≡ answerS (netIn (now (t .entry))) (stateAt (now (rec .entry))) (askEvent act (now (objs .entry))) ⌝ }
+    requires { ⌜ length (now kinds) ≡ 8 ⌝ }
+    ensures code { λ r. ⌜ eventCode r ≡ answerS (netIn (now (t .entry))) (stateAt (now (rec .entry))) (askEvent act (now (objs .entry))) ⌝ }
+    ensures kinds { λ r. ⌜ (eventCode r ≡ 0 → Kinds (now (rec .entry)) (now (objs .entry)) (now (kinds .exit))) ⌝ }
 {
     if words::get_word(rec, lay.counts) != 0 {
         return EventAnswer::Closed;
@@ -119,19 +136,40 @@ fn refuse(rec: &[u8], t: &[u32; 1684], lay: Layout, act: usize, objs: &[u32]) ->
     if objs.len() != net::look::arcs(t, act) {
         return EventAnswer::Number;
     }
-    refuse_objects(rec, t, lay, act, objs)
+    refuse_objects(rec, t, lay, act, objs, kinds)
+}
+
+// The kinds of known objects, by the register's bytes.
+fn read_kinds(register: &[u8], objs: &[u32], kinds: &mut [u32; 8])
+    requires { ⌜ All (λ (o : ℕ). o < length (wordsOf (now register))) (now objs) ⌝ }
+    requires { ⌜ (length (now objs) ≤ 8) × (length (now kinds) ≡ 8) ⌝ }
+    ensures { λ _. ⌜ take (length (now (objs .entry))) (now (kinds .exit)) ≡ kindsOf (wordsOf (now (register .entry))) (now (objs .entry)) ⌝ }
+{
+    let mut i = 0;
+    while i < objs.len() {
+        kinds[i] = words::get_word(register, words::wide(objs[i]));
+        i += 1;
+    }
 }
 
 // Every object of the event jumps where it has to, and is moved; the activity's jumps are added once, behind the last object.
-fn step_objects(rec: &mut [u8], t: &[u32; 1684], lay: Layout, act: usize, objs: &[u32])
+fn step_objects(
+    rec: &mut [u8],
+    t: &[u32; 1684],
+    lay: Layout,
+    act: usize,
+    objs: &[u32],
+    kinds: &[u32; 8],
+)
     requires { ⌜ Moving (now t) (now rec) lay act (now objs) ⌝ }
+    requires { ⌜ Kinds (now rec) (now objs) (now kinds) ⌝ }
     ensures { λ _. ⌜ wordsOf (now (rec .exit)) ≡ numbersOf (tableIn (now (rec .entry))) (movedState (netIn (now (t .entry))) (stateAt (now (rec .entry))) act (now (objs .entry))) ⌝ }
 {
     let mut done = 0;
     let mut jumps = 0u32;
     while done < objs.len() {
         let o = words::wide(objs[done]);
-        let k = words::wide(words::get_word(rec, lay.register + o));
+        let k = words::wide(kinds[done]);
         let inp = net::look::input(t, act, k);
         let out = net::look::output(t, act, k) as u32;
         jumps += move_object(rec, lay, o, inp, out);
@@ -141,11 +179,19 @@ fn step_objects(rec: &mut [u8], t: &[u32; 1684], lay: Layout, act: usize, objs: 
 }
 
 // An event to which none of 21 to 27 applies is carried out and counted.
-fn take_event(rec: &mut [u8], t: &[u32; 1684], lay: Layout, act: usize, objs: &[u32])
+fn take_event(
+    rec: &mut [u8],
+    t: &[u32; 1684],
+    lay: Layout,
+    act: usize,
+    objs: &[u32],
+    kinds: &[u32; 8],
+)
     requires { ⌜ Moving (now t) (now rec) lay act (now objs) ⌝ }
+    requires { ⌜ Kinds (now rec) (now objs) (now kinds) ⌝ }
     ensures { λ _. ⌜ wordsOf (now (rec .exit)) ≡ numbersOf (tableIn (now (rec .entry))) (afterEvent (netIn (now (t .entry))) (stateAt (now (rec .entry))) (record { act = act; objs = now (objs .entry) })) ⌝ }
 {
-    step_objects(rec, t, lay, act, objs);
+    step_objects(rec, t, lay, act, objs, kinds);
     add_one(rec, lay.counts + 1);
     add_one(rec, lay.counts + (3 + 2 * act));
 }
@@ -157,7 +203,11 @@ pub fn apply(rec: &mut [u8], t: &[u32; 1684], act: u32, objs: &[u32])
     ensures { λ _. ⌜ now (rec .exit) ≡ askBytes (now (rec .entry)) (askEvent act (now (objs .entry))) ⌝ }
 {
     let lay = read_layout(rec, t);
-    take_event(rec, t, lay, act as usize, objs);
+    let from = 4 * lay.register;
+    let to = 4 * lay.positions;
+    let mut kinds = [0u32; 8];
+    read_kinds(&rec[from..to], objs, &mut kinds);
+    take_event(rec, t, lay, act as usize, objs, &kinds);
 }
 
 // Puts an event to a trail: it is refused and nothing changes, or it is carried out in the record's bytes.
@@ -166,10 +216,11 @@ pub fn event(rec: &mut [u8], t: &[u32; 1684], act: u32, objs: &[u32]) -> EventAn
     ensures { λ r. ⌜ (eventCode r ≡ askCode (now (rec .entry)) (askEvent act (now (objs .entry)))) × (now (rec .exit) ≡ askBytes (now (rec .entry)) (askEvent act (now (objs .entry)))) ⌝ }
 {
     let lay = read_layout(rec, t);
-    let answer = refuse(rec, t, lay, act as usize, objs);
+    let mut kinds = [0u32; 8];
+    let answer = refuse(rec, t, lay, act as usize, objs, &mut kinds);
     match answer {
         EventAnswer::Taken => {
-            take_event(rec, t, lay, act as usize, objs);
+            take_event(rec, t, lay, act as usize, objs, &kinds);
             EventAnswer::Taken
         }
         _ => answer,

@@ -1,6 +1,6 @@
 -- `refuse` meets its contract: each test that is passed says what the next ones may rely on. Assumes nothing.
 use mathlib.Core.Bool.{false, not}
-use mathlib.Core.Path.{_≡_, sym, ap, _∙_}
+use mathlib.Core.Path.{_≡_, refl, sym, ap, _∙_}
 use native.Mathlib.Omega.{arith}
 use lib.ListN.{length}
 use lib.Dec.{leb, eqb}
@@ -14,13 +14,13 @@ use Rattle.events.proofs.event.refuse.Statement.{statement}
 use Rattle.events.proofs.event.refuse.Tie as tie
 
 closed : (c : tie.Then1) → c .before .get-word .result ≡ stateAt (c .before .before .before .before .args .rec .now) .closed
-closed c = c .before .get-word .ensures ∙ closed-read _ _ _ (c .before .before .before .before .pre .0) (c .before .before .before .before .pre .1)
+closed c = c .before .get-word .ensures ∙ closed-read _ _ _ (c .before .before .before .before .pre .0) (c .before .before .before .before .pre .1 .0)
 
 t1 : (c : tie.Else1) → not (eqb (stateAt (c .before .before .before .before .args .rec .now) .closed) 0) ≡ false
-t1 c = not-eqb _ _ (sym (c .before .get-word .ensures ∙ closed-read _ _ _ (c .before .before .before .before .pre .0) (c .before .before .before .before .pre .1)) ∙ c .if1 .left)
+t1 c = not-eqb _ _ (sym (c .before .get-word .ensures ∙ closed-read _ _ _ (c .before .before .before .before .pre .0) (c .before .before .before .before .pre .1 .0)) ∙ c .if1 .left)
 
 events : (c : tie.After-get-word2) → c .get-word2 .result ≡ stateAt (c .before .before .before .before .before .before .args .rec .now) .events
-events c = c .get-word2 .ensures ∙ events-read _ _ _ (c .before .before .before .before .before .before .pre .0) (c .before .before .before .before .before .before .pre .1)
+events c = c .get-word2 .ensures ∙ events-read _ _ _ (c .before .before .before .before .before .before .pre .0) (c .before .before .before .before .before .before .pre .1 .0)
 
 t2 : (c : tie.Else2) → leb 1000000 (stateAt (c .before .before .before .before .before .before .before .args .rec .now) .events) ≡ false
 t2 c = lt-leb _ _ (rw (events (c .before)) at (c .if2 .left))
@@ -32,37 +32,37 @@ t4 : (c : tie.Else4) → not (eqb (length (c .before .before .before .before .be
 t4 c = not-eqb _ _ (c .if4 .left ∙ c .before .arcs .ensures)
 
 get-word-requires : tie.Need-get-word-requires
-get-word-requires c κs = let s = c .before .before in closed-in _ _ _ (s .pre .0) (s .pre .1)
+get-word-requires c κs = let s = c .before .before in closed-in _ _ _ (s .pre .0) (s .pre .1 .0)
 
 returns : tie.Need-returns
-returns c = let s = c .before .before .before .before in rw (ap not (ne-eqb (stateAt (s .args .rec .now) .closed) 0 (λ q. c .if1 .taken (closed c ∙ q))))
+returns c = let s = c .before .before .before .before in (rw (ap not (ne-eqb (stateAt (s .args .rec .now) .closed) 0 (λ q. c .if1 .taken (closed c ∙ q)))) refl, λ z. absurd (omega arith))
 
 add-get-word : tie.Need-add-get-word
-add-get-word c = let s = c .before .before .before .before .before in omega (arith, closed-in _ _ _ (s .pre .0) (s .pre .1), words-few _ _ _ (s .pre .0) (s .pre .1))
+add-get-word c = let s = c .before .before .before .before .before in omega (arith, closed-in _ _ _ (s .pre .0) (s .pre .1 .0), words-few _ _ _ (s .pre .0) (s .pre .1 .0))
 
 get-word-requires-2 : tie.Need-get-word-requires-2
-get-word-requires-2 c κs = let s = c .before .before .before .before .before in count-in _ _ _ (s .pre .0) (s .pre .1) 1 (omega arith)
+get-word-requires-2 c κs = let s = c .before .before .before .before .before in count-in _ _ _ (s .pre .0) (s .pre .1 .0) 1 (omega arith)
 
 returns-2 : tie.Need-returns-2
-returns-2 c = rw (t1 (c .before .before .before), le-leb _ _ (rw (events (c .before)) at (c .if2 .taken)))
+returns-2 c = (rw (t1 (c .before .before .before), le-leb _ _ (rw (events (c .before)) at (c .if2 .taken))) refl, λ z. absurd (omega arith))
 
 acts-requires : tie.Need-acts-requires
 acts-requires c κs = search needs
 
 returns-3 : tie.Need-returns-3
-returns-3 c = rw (t1 (c .before .before .before .before .before), t2 (c .before .before), le-leb _ _ (rw (c .before .acts .ensures) at (c .if3 .taken)))
+returns-3 c = (rw (t1 (c .before .before .before .before .before), t2 (c .before .before), le-leb _ _ (rw (c .before .acts .ensures) at (c .if3 .taken))) refl, λ z. absurd (omega arith))
 
 arcs-requires : tie.Need-arcs-requires
 arcs-requires c κs = let s = c .before .before .before .before .before .before .before .before .before in (s .pre .0 .held, rw (c .before .acts .ensures) at (c .if3 .left))
 
 returns-4 : tie.Need-returns-4
-returns-4 c = rw (t1 (c .before .before .before .before .before .before .before), t2 (c .before .before .before .before), t3 (c .before .before), ap not (ne-eqb _ _ (rw (c .before .arcs .ensures) at (c .if4 .taken))))
+returns-4 c = (rw (t1 (c .before .before .before .before .before .before .before), t2 (c .before .before .before .before), t3 (c .before .before), ap not (ne-eqb _ _ (rw (c .before .arcs .ensures) at (c .if4 .taken)))) refl, λ z. absurd (omega arith))
 
 refuse-objects-requires : tie.Need-refuse-objects-requires
-refuse-objects-requires c κs = let s = c .before .before .before .before .before .before .before .before .before .before .before in record { ready = s .pre .0; lay = s .pre .1; act-in = rw (c .before .before .before .acts .ensures) at (c .before .before .if3 .left); size = c .if4 .left ∙ c .before .arcs .ensures }
+refuse-objects-requires c κs = let s = c .before .before .before .before .before .before .before .before .before .before .before .before in (record { ready = s .pre .0; lay = s .pre .1 .0; act-in = rw (c .before .before .before .before .acts .ensures) at (c .before .before .before .if3 .left); size = c .before .if4 .left ∙ c .before .before .arcs .ensures }, s .pre .1 .1)
 
 returns-5 : tie.Need-returns-5
-returns-5 c = rw (t1 (c .before .before .before .before .before .before .before .before), t2 (c .before .before .before .before .before), t3 (c .before .before .before), t4 (c .before)) (c .refuse-objects .ensures)
+returns-5 c = (rw (t1 (c .before .before .before .before .before .before .before .before .before), t2 (c .before .before .before .before .before .before), t3 (c .before .before .before .before), t4 (c .before .before)) (c .refuse-objects .ensures .0), c .refuse-objects .ensures .1)
 
 pub refuse-spec : {M : Type 1} → statement M
 refuse-spec =

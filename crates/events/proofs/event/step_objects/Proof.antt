@@ -9,39 +9,37 @@ use Rattle.net.specs.Held.{netIn}
 use Rattle.replay.specs.Record.{tableIn}
 use Rattle.replay.specs.Calls.{stateAt}
 use Rattle.events.specs.Moves.{movedState}
-use Rattle.events.proofs.Asked.{few-objects, object-in, own-kind-in, own-kind-taken, inp-in, out-in, own-in, placed-at}
-use Rattle.events.proofs.Walk.{sum-start, sum-few, register-in, register-kind, can-add-sum, can-move}
+use Rattle.events.proofs.Asked.{few-objects, object-in, kind-kept, own-kind-in, own-kind-taken, inp-in, out-in, own-in, placed-at}
+use Rattle.events.proofs.Walk.{sum-start, can-add-sum, can-move}
 use Rattle.events.proofs.Steps.{Stepping, walk-start, step-turn, step-end}
 use Rattle.events.proofs.event.step_objects.Statement.{statement}
 use Rattle.events.proofs.event.step_objects.Tie as tie
 
 abbrev Inv-loop : tie.InvT-loop
-Inv-loop rec₀ t lay act objs done₀ jumps₀ rec done jumps =
+Inv-loop rec₀ t lay act objs kinds done₀ jumps₀ rec done jumps =
     (done ≤ length objs) × (jumps ≤ done) × (length rec ≡ length rec₀)
     × Stepping (netIn t) (tableIn rec₀) lay (8001025 + done) act (stateAt rec₀ .kinds) (drop done objs) (movedState (netIn t) (stateAt rec₀) act objs) jumps (wordsOf rec)
 
 abbrev μ-loop : tie.MeasureT-loop
-μ-loop rec₀ t lay act objs done₀ jumps₀ rec done jumps = length objs - done
+μ-loop rec₀ t lay act objs kinds done₀ jumps₀ rec done jumps = length objs - done
 
--- the object is in the register, and the kind read there is its own
+-- the object is in the register, and the kind kept is its own
 known-at : (c : tie.After-wide Inv-loop μ-loop) → c .wide .result < c .before .before .before .before .before .before .args .lay .objects
-known-at c = rw (c .wide .ensures) (object-in _ _ _ _ _ (c .before .before .before .before .before .before .pre .known) (c .before .before .before .loop .done) (c .before .before .loop-test .taken))
+known-at c = rw (c .wide .ensures) (object-in _ _ _ _ _ (c .before .before .before .before .before .before .pre .0 .known) (c .before .before .before .loop .done) (c .before .before .loop-test .taken))
 
-kind-at : (c : tie.After-wide2 Inv-loop μ-loop) → c .wide2 .result ≡ getD (stateAt (c .before .before .before .before .before .before .before .before .before .before .args .rec .now) .kinds) (getD (c .before .before .before .before .before .before .before .before .before .before .args .objs .now) (c .before .before .before .before .before .before .before .loop .done) 0) 0
-kind-at c =
-    let l = c .before .before .before .before .before .before .before .loop in let s = c .before .before .before .before .before .before .before .before .before .before in
-    c .wide2 .ensures ∙ c .before .get-word .ensures ∙ ap (λ (o : ℕ). getD (wordsOf (l .rec)) (s .args .lay .register + o) 0) (c .before .before .before .before .wide .ensures)
-    ∙ register-kind _ _ _ _ _ _ _ _ (l .inv .3 .sum) _ (l .inv .3 .same) (getD (s .args .objs .now) (l .done) 0) (object-in _ _ _ _ _ (s .pre .known) (l .done) (c .before .before .before .before .before .before .loop-test .taken))
+kind-at : (c : tie.After-wide2 Inv-loop μ-loop) → c .wide2 .result ≡ getD (stateAt (c .before .before .before .before .before .before .before .before .args .rec .now) .kinds) (getD (c .before .before .before .before .before .before .before .before .args .objs .now) (c .before .before .before .before .before .loop .done) 0) 0
+kind-at c = let s = c .before .before .before .before .before .before .before .before in
+    c .wide2 .ensures ∙ kind-kept _ _ _ _ _ (s .pre .0 .known) (s .args .kinds .now) (s .pre .1) (c .before .before .before .before .before .loop .done) (c .before .before .before .before .loop-test .taken)
 
 -- its places are known
-inp-at : (c : tie.After-input Inv-loop μ-loop) → c .input .result < c .before .before .before .before .before .before .before .before .before .before .before .args .lay .places
-inp-at c = rw (c .input .ensures, kind-at (c .before)) (inp-in _ _ _ _ _ (c .before .before .before .before .before .before .before .before .before .before .before .pre) (c .before .before .before .before .before .before .before .before .loop .done) (c .before .before .before .before .before .before .before .loop-test .taken))
+inp-at : (c : tie.After-input Inv-loop μ-loop) → c .input .result < c .before .before .before .before .before .before .before .before .before .args .lay .places
+inp-at c = rw (c .input .ensures, kind-at (c .before)) (inp-in _ _ _ _ _ (c .before .before .before .before .before .before .before .before .before .pre .0) (c .before .before .before .before .before .before .loop .done) (c .before .before .before .before .before .loop-test .taken))
 
-out-at : (c : tie.After-output Inv-loop μ-loop) → c .output .result < c .before .before .before .before .before .before .before .before .before .before .before .before .args .lay .places
-out-at c = rw (c .output .ensures, kind-at (c .before .before)) (out-in _ _ _ _ _ (c .before .before .before .before .before .before .before .before .before .before .before .before .pre) (c .before .before .before .before .before .before .before .before .before .loop .done) (c .before .before .before .before .before .before .before .before .loop-test .taken))
+out-at : (c : tie.After-output Inv-loop μ-loop) → c .output .result < c .before .before .before .before .before .before .before .before .before .before .args .lay .places
+out-at c = rw (c .output .ensures, kind-at (c .before .before)) (out-in _ _ _ _ _ (c .before .before .before .before .before .before .before .before .before .before .pre .0) (c .before .before .before .before .before .before .before .loop .done) (c .before .before .before .before .before .before .loop-test .taken))
 
 loop-holds : tie.Need-loop-holds Inv-loop μ-loop
-loop-holds c = let s = c .before .before in (omega arith, omega arith, refl, record { state = stateAt (s .args .rec .now); sum = sum-start _ _ _ _ _ _ _ (walk-start _ _ _ (s .pre .known .counted .ready) (s .pre .known .counted .lay)) (omega arith) (own-in _ _ _ _ _ (s .pre .known) .0); same = refl; left = refl })
+loop-holds c = let s = c .before .before in (omega arith, omega arith, refl, record { state = stateAt (s .args .rec .now); sum = sum-start _ _ _ _ _ _ _ (walk-start _ _ _ (s .pre .0 .known .counted .ready) (s .pre .0 .known .counted .lay)) (omega arith) (own-in _ _ _ _ _ (s .pre .0 .known) .0); same = refl; left = refl })
 
 mul-wide : tie.Need-mul-wide Inv-loop μ-loop
 mul-wide c = search needs
@@ -52,60 +50,60 @@ shared-slice-read-wide c = search needs
 wide-requires : tie.Need-wide-requires Inv-loop μ-loop
 wide-requires c κs = search needs
 
-add-get-word : tie.Need-add-get-word Inv-loop μ-loop
-add-get-word c = let l = c .before .before .before .before .before .loop in omega (arith, register-in _ _ _ _ _ _ _ _ (l .inv .3 .sum) (c .before .before .wide .result) (known-at (c .before .before)), sum-few _ _ _ _ _ _ _ _ (l .inv .3 .sum))
+mul-wide-2 : tie.Need-mul-wide-2 Inv-loop μ-loop
+mul-wide-2 c = search needs
 
-get-word-requires : tie.Need-get-word-requires Inv-loop μ-loop
-get-word-requires c κs = register-in _ _ _ _ _ _ _ _ (c .before .before .before .before .before .loop .inv .3 .sum) (c .before .before .wide .result) (known-at (c .before .before))
+element-copy-out-wide : tie.Need-element-copy-out-wide Inv-loop μ-loop
+element-copy-out-wide c = let s = c .before .before .before .before .before .before in omega (arith, few-objects _ _ _ _ _ (s .pre .0 .known .counted))
 
 wide-requires-2 : tie.Need-wide-requires-2 Inv-loop μ-loop
 wide-requires-2 c κs = search needs
 
 input-requires : tie.Need-input-requires Inv-loop μ-loop
-input-requires c κs = let s = c .before .before .before .before .before .before .before .before .before .before in
-    (s .pre .known .counted .ready .held, (s .pre .known .counted .act-in, rw (kind-at c) (own-kind-in _ _ _ _ _ (s .pre) (c .before .before .before .before .before .before .before .loop .done) (c .before .before .before .before .before .before .loop-test .taken)), rw (kind-at c) (own-kind-taken _ _ _ _ _ (s .pre) (c .before .before .before .before .before .before .before .loop .done) (c .before .before .before .before .before .before .loop-test .taken))))
+input-requires c κs = let s = c .before .before .before .before .before .before .before .before in
+    (s .pre .0 .known .counted .ready .held, (s .pre .0 .known .counted .act-in, rw (kind-at c) (own-kind-in _ _ _ _ _ (s .pre .0) (c .before .before .before .before .before .loop .done) (c .before .before .before .before .loop-test .taken)), rw (kind-at c) (own-kind-taken _ _ _ _ _ (s .pre .0) (c .before .before .before .before .before .loop .done) (c .before .before .before .before .loop-test .taken))))
 
 output-requires : tie.Need-output-requires Inv-loop μ-loop
-output-requires c κs = let s = c .before .before .before .before .before .before .before .before .before .before .before in
-    (s .pre .known .counted .ready .held, (s .pre .known .counted .act-in, rw (kind-at (c .before)) (own-kind-in _ _ _ _ _ (s .pre) (c .before .before .before .before .before .before .before .before .loop .done) (c .before .before .before .before .before .before .before .loop-test .taken)), rw (kind-at (c .before)) (own-kind-taken _ _ _ _ _ (s .pre) (c .before .before .before .before .before .before .before .before .loop .done) (c .before .before .before .before .before .before .before .loop-test .taken))))
+output-requires c κs = let s = c .before .before .before .before .before .before .before .before .before in
+    (s .pre .0 .known .counted .ready .held, (s .pre .0 .known .counted .act-in, rw (kind-at (c .before)) (own-kind-in _ _ _ _ _ (s .pre .0) (c .before .before .before .before .before .before .loop .done) (c .before .before .before .before .before .loop-test .taken)), rw (kind-at (c .before)) (own-kind-taken _ _ _ _ _ (s .pre .0) (c .before .before .before .before .before .before .loop .done) (c .before .before .before .before .before .loop-test .taken))))
 
 cast-out : tie.Need-cast-out Inv-loop μ-loop
-cast-out c = let s = c .before .before .before .before .before .before .before .before .before .before .before .before in omega (arith, out-at c, placed-at _ _ _ (s .pre .known .counted .ready) (s .pre .known .counted .lay) .places-few)
+cast-out c = let s = c .before .before .before .before .before .before .before .before .before .before in omega (arith, out-at c, placed-at _ _ _ (s .pre .0 .known .counted .ready) (s .pre .0 .known .counted .lay) .places-few)
 
 move-object-requires : tie.Need-move-object-requires Inv-loop μ-loop
-move-object-requires c κs = let s = c .before .before .before .before .before .before .before .before .before .before .before .before .before in let l = c .before .before .before .before .before .before .before .before .before .before .loop in
-    can-move _ _ _ (8001025 + l .done) _ _ _ _ (l .inv .3 .sum) _ _ (known-at (c .before .before .before .before .before .before .before)) (inp-at (c .before .before)) (omega (arith, few-objects _ _ _ _ _ (s .pre .known .counted)))
+move-object-requires c κs = let s = c .before .before .before .before .before .before .before .before .before .before .before in let l = c .before .before .before .before .before .before .before .before .loop in
+    can-move _ _ _ (8001025 + l .done) _ _ _ _ (l .inv .3 .sum) _ _ (known-at (c .before .before .before .before .before)) (inp-at (c .before .before)) (omega (arith, few-objects _ _ _ _ _ (s .pre .0 .known .counted)))
 
 add-jumps : tie.Need-add-jumps Inv-loop μ-loop
-add-jumps c = omega (arith, c .before .before .move-object .ensures .2, c .before .before .before .before .before .before .before .before .before .before .before .before .before .loop .inv .1, c .before .before .before .before .before .before .before .before .before .before .before .before .loop-test .taken, few-objects _ _ _ _ _ (c .before .before .before .before .before .before .before .before .before .before .before .before .before .before .before .before .pre .known .counted))
+add-jumps c = omega (arith, c .before .before .move-object .ensures .2, c .before .before .before .before .before .before .before .before .before .before .before .loop .inv .1, c .before .before .before .before .before .before .before .before .before .before .loop-test .taken, few-objects _ _ _ _ _ (c .before .before .before .before .before .before .before .before .before .before .before .before .before .before .pre .0 .known .counted))
 
 add-done : tie.Need-add-done Inv-loop μ-loop
-add-done c = omega (arith, c .before .before .before .before .before .before .before .before .before .before .before .before .loop-test .taken, few-objects _ _ _ _ _ (c .before .before .before .before .before .before .before .before .before .before .before .before .before .before .before .before .pre .known .counted))
+add-done c = omega (arith, c .before .before .before .before .before .before .before .before .before .before .loop-test .taken, few-objects _ _ _ _ _ (c .before .before .before .before .before .before .before .before .before .before .before .before .before .before .pre .0 .known .counted))
 
 loop-less : tie.Need-loop-less Inv-loop μ-loop
 loop-less c = search needs
 
 loop-again : tie.Need-loop-again Inv-loop μ-loop
-loop-again c = let s = c .before .before .before .before .before .before .before .before .before .before .before .before .before .before .before .before in let l = c .before .before .before .before .before .before .before .before .before .before .before .before .before .loop in let h = c .before .before .before .before .before .before .before .before .before .before .before .before .loop-test .taken in let i = c .before .before .before .before .before in let o = c .before .before .before .before in let m = c .before .before .move-object in (
+loop-again c = let s = c .before .before .before .before .before .before .before .before .before .before .before .before .before .before in let l = c .before .before .before .before .before .before .before .before .before .before .before .loop in let h = c .before .before .before .before .before .before .before .before .before .before .loop-test .taken in let i = c .before .before .before .before .before in let o = c .before .before .before .before in let m = c .before .before .move-object in (
   omega arith,
   omega (arith, m .ensures .2),
   omega arith,
-  rw (m .ensures .0, m .ensures .1, i .input .ensures, o .output .ensures, c .before .before .before .before .before .before .before .before .before .before .wide .ensures)
-      (step-turn _ _ _ (8001025 + l .done) _ _ _ _ _ _ (l .done) (l .inv .3) (8001025 + (l .done + 1)) (c .before .before .before .before .before .before .wide2 .result) h (kind-at (c .before .before .before .before .before .before)) (s .pre .known .counted .act-in) (object-in _ _ _ _ _ (s .pre .known) (l .done) h) (rw (i .input .ensures) at (inp-at i)) (rw (o .output .ensures) at (out-at o)) (omega arith)),
+  rw (m .ensures .0, m .ensures .1, i .input .ensures, o .output .ensures, c .before .before .before .before .before .before .before .before .wide .ensures)
+      (step-turn _ _ _ (8001025 + l .done) _ _ _ _ _ _ (l .done) (l .inv .3) (8001025 + (l .done + 1)) (c .before .before .before .before .before .before .wide2 .result) h (kind-at (c .before .before .before .before .before .before)) (s .pre .0 .known .counted .act-in) (object-in _ _ _ _ _ (s .pre .0 .known) (l .done) h) (rw (i .input .ensures) at (inp-at i)) (rw (o .output .ensures) at (out-at o)) (omega arith)),
 )
 
 mul-add : tie.Need-mul-add Inv-loop μ-loop
-mul-add c = omega (arith, own-in _ _ _ _ _ (c .before .before .before .before .before .pre .known))
+mul-add c = omega (arith, own-in _ _ _ _ _ (c .before .before .before .before .before .pre .0 .known))
 
 add-add : tie.Need-add-add Inv-loop μ-loop
-add-add c = omega (arith, own-in _ _ _ _ _ (c .before .before .before .before .before .pre .known))
+add-add c = omega (arith, own-in _ _ _ _ _ (c .before .before .before .before .before .pre .0 .known))
 
 add-add-2 : tie.Need-add-add-2 Inv-loop μ-loop
-add-add-2 c = omega (arith, own-in _ _ _ _ _ (c .before .before .before .before .before .before .pre .known))
+add-add-2 c = omega (arith, own-in _ _ _ _ _ (c .before .before .before .before .before .before .pre .0 .known))
 
 add-requires : tie.Need-add-requires Inv-loop μ-loop
 add-requires c κs = let s = c .before .before .before .before .before .before in let l = c .before .before .before .loop in
-    can-add-sum _ _ _ (8001025 + l .done) _ _ _ _ (l .inv .3 .sum) (omega (arith, l .inv .0, few-objects _ _ _ _ _ (s .pre .known .counted)))
+    can-add-sum _ _ _ (8001025 + l .done) _ _ _ _ (l .inv .3 .sum) (omega (arith, l .inv .0, few-objects _ _ _ _ _ (s .pre .0 .known .counted)))
 
 same-length : tie.Need-same-length Inv-loop μ-loop
 same-length c = search needs
@@ -123,8 +121,8 @@ step-objects-spec =
     mul-wide
     shared-slice-read-wide
     wide-requires
-    add-get-word
-    get-word-requires
+    mul-wide-2
+    element-copy-out-wide
     wide-requires-2
     input-requires
     output-requires
