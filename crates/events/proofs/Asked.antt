@@ -1,36 +1,30 @@
 -- An event put to a record: the layout fits, its objects are in the register, and their kinds are read there. Assumes nothing.
 use Prim.Native.Nat.{ℕ, _+_, _-_, _*_, _≤_, _<_}
-use mathlib.Core.Bool.{true}
-use mathlib.Core.Path.{_≡_, ap, sym, _∙_, subst}
+use mathlib.Core.Bool.{Bool, true, false, not}
+use mathlib.Core.Path.{_≡_, refl, ap, sym, _∙_, subst}
 use mathlib.Core.List.{List, [], _∷_, _++_, append-assoc}
 use native.Mathlib.Omega.{arith}
 use native.Mathlib.Numerals.{add-one}
-use native.Mathlib.Decide.{ℕ-discrete}
-use lib.ListN.{length, getD, set, take, drop, length-map, length-take, length-append}
-use lib.Seq.{take-all, take-suc, take-suc-set, take-at, drop-at, getD-take, getD-set-same, getD-set-other, ext-getD}
+use lib.Dec.{leb}
+use lib.ListN.{length, getD, set, take, drop, length-map, length-append}
+use lib.Seq.{take-all, take-suc, take-suc-set, take-at, drop-at, getD-take}
+use Rattle.words.specs.Lists.{any, twice}
+use Rattle.words.specs.Refusals.{first}
 use Rattle.words.specs.Words.{wordsOf, bytesOf}
 use Rattle.words.proofs.Lists.{All-at, map-at, map-append}
 use Rattle.words.proofs.Words.{length-words, length-bytes, words-of-bytes}
-use Rattle.net.specs.Net.{GoodArc, takes, inputOf, outputOf}
+use Rattle.net.specs.Net.{Net, GoodArc, takes, inputOf, outputOf}
 use Rattle.net.specs.Held.{netIn}
 use Rattle.net.proofs.IndexLaws.{arc-has}
-use Rattle.replay.specs.Plain.{kindsOf}
+use Rattle.replay.specs.Plain.{kindsOf, objectTests}
 use Rattle.replay.specs.Record.{counts, contents, encode, tableIn, stateIn}
 use Rattle.replay.specs.Calls.{netAt, stateAt}
 use Rattle.replay.specs.Offsets.{layoutOf}
-use Rattle.replay.specs.Ready.{Ready}
-use Rattle.events.specs.Answers.{Counted, Known, Moving, Kinds}
+use Rattle.replay.specs.Ready.{Ready, KnownKinds}
+use Rattle.events.specs.Answers.{ObjectCode, Counted, Moving, Kinds}
 use Rattle.replay.specs.declared.layout.Layout.{Layout}
 use Rattle.replay.proofs.Encode.{fit-kinds}
-use Rattle.replay.proofs.RecordLaws.{Placed, record-size, record-few, get-kind, get-closed, get-events, ready-loaded, ready-sound, ready-words, ready-placed, ready-length}
-
--- numbers that are kept one by one
-pub set-more : (ks xs : List ℕ) (i v : ℕ) → i < length ks → v ≡ getD xs i 0 → ((j : ℕ) → j < i → getD ks j 0 ≡ getD xs j 0) → (j : ℕ) → j < i + 1 → getD (set ks i v) j 0 ≡ getD xs j 0
-set-more ks xs i v h e f j l = go (ℕ-discrete j i)
-  where
-    go : Dec (j ≡ i) → getD (set ks i v) j 0 ≡ getD xs j 0
-    go (yes q) = rw q (getD-set-same ks i v 0 h ∙ e)
-    go (no m) = getD-set-other ks i j v 0 m ∙ f j (omega arith)
+use Rattle.replay.proofs.RecordLaws.{Placed, record-size, record-few, get-closed, get-events, ready-loaded, ready-sound, ready-words, ready-placed, ready-length}
 
 -- kinds read one by one
 module _ (rs os : List ℕ) where
@@ -40,6 +34,16 @@ module _ (rs os : List ℕ) where
 
   pub kinds-all : (ks : List ℕ) (i : ℕ) → i ≡ length os → take i ks ≡ kindsOf rs (take i os) → take (length os) ks ≡ kindsOf rs os
   kinds-all ks i e q = ap (λ (n : ℕ). take n ks) (sym e) ∙ q ∙ ap (kindsOf rs) (take-all i os (omega arith))
+
+-- what the tests of an event's objects give
+pub object-code : (N : Net) (ks : List ℕ) (a : ℕ) (os : List ℕ) → ObjectCode (first (objectTests N ks a os))
+object-code N ks a os = go (any (λ (o : ℕ). leb (length ks) o) os) (any (λ (k : ℕ). not (takes N a k)) (kindsOf ks os)) (twice (kindsOf ks os))
+  where
+    go : (x y z : Bool) → ObjectCode (first ((x, 25) ∷ (y, 26) ∷ (z, 27) ∷ []))
+    go true y z = record { few = omega arith; many = λ n. omega arith }
+    go false true z = record { few = omega arith; many = λ n. omega arith }
+    go false false true = record { few = omega arith; many = λ n. omega arith }
+    go false false false = record { few = omega arith; many = λ n. absurd (n refl) }
 
 -- the layout, and how many numbers there are
 module _ (w b : List ℕ) (l : Layout) (R : Ready w b) (e : l ≡ layoutOf (netIn w) b) where
@@ -88,6 +92,9 @@ module _ (w b : List ℕ) (l : Layout) (R : Ready w b) (e : l ≡ layoutOf (netI
   pub kind-of-in : (o : ℕ) → o < l .objects → getD (stateAt b .kinds) o 0 < netIn w .kinds
   kind-of-in o h = All-at (λ (k : ℕ). k < netIn w .kinds) 0 (stateAt b .kinds) (ready-sound w b R .kinds) o (omega (arith, placed-at .kinds-size))
 
+  pub register-known : KnownKinds (netIn w) (wordsOf (take (4 * l .positions - 4 * l .register) (drop (4 * l .register) b)))
+  register-known = rw register-words (record { kind = λ o h. kind-of-in o (omega (arith, placed-at .kinds-size)) })
+
   pub sink-of-in : (o : ℕ) → o < l .objects → netIn w .sink (getD (stateAt b .kinds) o 0) < l .places
   sink-of-in o h = omega (arith, ready-loaded w b R .sink-in (getD (stateAt b .kinds) o 0) (kind-of-in o h), placed-at .places-are)
 
@@ -95,15 +102,12 @@ module _ (w b : List ℕ) (l : Layout) (a : ℕ) (os : List ℕ) (C : Counted w 
   pub few-objects : length os ≤ 8
   few-objects = omega (arith, C .size, ready-loaded w b (C .ready) .arcs-le a (C .act-in))
 
-module _ (w b : List ℕ) (l : Layout) (a : ℕ) (os : List ℕ) (K : Known w b l a os) where
+module _ (w b : List ℕ) (l : Layout) (a : ℕ) (os : List ℕ) (M : Moving w b l a os) where
   placed : Placed (netIn w) (tableIn b) l (stateAt b)
-  placed = placed-at w b l (K .counted .ready) (K .counted .lay)
+  placed = placed-at w b l (M .counted .ready) (M .counted .lay)
 
   pub object-in : (i : ℕ) → i < length os → getD os i 0 < l .objects
-  object-in i h = omega (arith, All-at (λ (o : ℕ). o < length (stateAt b .kinds)) 0 os (K .known) i h, placed .kinds-size)
-
-  pub read-in : (i : ℕ) → i < length os → l .register + getD os i 0 < length (wordsOf b)
-  read-in i h = omega (arith, object-in i h, words-size w b l (K .counted .ready) (K .counted .lay), placed .positions-at, placed .counts-at, placed .jumps-at)
+  object-in i h = omega (arith, All-at (λ (o : ℕ). o < length (stateAt b .kinds)) 0 os (M .known) i h, placed .kinds-size)
 
   pub kinds-length : length (kindsOf (stateAt b .kinds) os) ≡ length os
   kinds-length = length-map os (λ (o : ℕ). getD (stateAt b .kinds) o 0)
@@ -111,31 +115,14 @@ module _ (w b : List ℕ) (l : Layout) (a : ℕ) (os : List ℕ) (K : Known w b 
   pub kind-is : (i : ℕ) → i < length os → getD (kindsOf (stateAt b .kinds) os) i 0 ≡ getD (stateAt b .kinds) (getD os i 0) 0
   kind-is i h = map-at (λ (o : ℕ). getD (stateAt b .kinds) o 0) 0 0 os i h
 
-  pub kind-read : (i : ℕ) → i < length os → getD (wordsOf b) (l .register + getD os i 0) 0 ≡ getD (kindsOf (stateAt b .kinds) os) i 0
-  kind-read i h =
-      ap (λ (v : List ℕ). getD v (l .register + getD os i 0) 0) (ready-words w b (K .counted .ready))
-      ∙ get-kind (netIn w) (tableIn b) l (stateAt b) placed (getD os i 0) (object-in i h) ∙ sym (kind-is i h)
-
-  pub kind-in : (i : ℕ) → i < length os → getD (kindsOf (stateAt b .kinds) os) i 0 < netIn w .kinds
-  kind-in i h = rw (kind-is i h) (kind-of-in w b l (K .counted .ready) (K .counted .lay) (getD os i 0) (object-in i h))
-
-  -- the kinds kept, one by one, are the kinds
-  pub kinds-kept : (ks : List ℕ) → length ks ≡ 8 → ((j : ℕ) → j < length os → getD ks j 0 ≡ getD (kindsOf (stateAt b .kinds) os) j 0) → take (length os) ks ≡ kindsOf (stateAt b .kinds) os
-  kinds-kept ks e f =
-      let n : length (take (length os) ks) ≡ length os = simp length-take (omega (arith, few-objects w b l a os (K .counted))) in
-      ext-getD 0 (take (length os) ks) (kindsOf (stateAt b .kinds) os) (n ∙ sym kinds-length) (λ i h. getD-take (length os) ks i 0 (omega arith) ∙ f i (omega arith))
-
   -- of the kinds kept, each is the object's own
   pub kind-kept : (ks : List ℕ) → Kinds b os ks → (i : ℕ) → i < length os → getD ks i 0 ≡ getD (stateAt b .kinds) (getD os i 0) 0
   kind-kept ks e i h = sym (getD-take (length os) ks i 0 h) ∙ ap (λ (v : List ℕ). getD v i 0) e ∙ kind-is i h
 
-  pub kinds-fit : (ks : List ℕ) → take (length os) ks ≡ kindsOf (stateAt b .kinds) os → length os ≤ length ks
-  kinds-fit ks e = omega (arith, length-take (length os) ks, ap length e, kinds-length)
-
   -- the jumps of the activity are one of the counts
   pub own-in : (l .counts + (4 + 2 * a) < l .jumps) × (l .jumps ≤ 7461)
   own-in =
-      (omega (arith, K .counted .act-in, placed .jumps-at), omega (arith, words-size w b l (K .counted .ready) (K .counted .lay), words-few w b l (K .counted .ready) (K .counted .lay)))
+      (omega (arith, M .counted .act-in, placed .jumps-at), omega (arith, words-size w b l (M .counted .ready) (M .counted .lay), words-few w b l (M .counted .ready) (M .counted .lay)))
 
 -- the kind of an event's object, and its places
 module _ (w b : List ℕ) (l : Layout) (a : ℕ) (os : List ℕ) (M : Moving w b l a os) (i : ℕ) (h : i < length os) where
@@ -143,16 +130,16 @@ module _ (w b : List ℕ) (l : Layout) (a : ℕ) (os : List ℕ) (M : Moving w b
   kind = getD (stateAt b .kinds) (getD os i 0) 0
 
   pub own-kind-in : kind < netIn w .kinds
-  own-kind-in = kind-of-in w b l (M .known .counted .ready) (M .known .counted .lay) (getD os i 0) (object-in w b l a os (M .known) i h)
+  own-kind-in = kind-of-in w b l (M .counted .ready) (M .counted .lay) (getD os i 0) (object-in w b l a os M i h)
 
   pub own-kind-taken : takes (netIn w) a kind ≡ true
-  own-kind-taken = rw (← kind-is w b l a os (M .known) i h) (All-at (λ (k : ℕ). takes (netIn w) a k ≡ true) 0 (kindsOf (stateAt b .kinds) os) (M .taken) i (omega (arith, kinds-length w b l a os (M .known))))
+  own-kind-taken = rw (← kind-is w b l a os M i h) (All-at (λ (k : ℕ). takes (netIn w) a k ≡ true) 0 (kindsOf (stateAt b .kinds) os) (M .taken) i (omega (arith, kinds-length w b l a os M)))
 
   arc-good : GoodArc (netIn w) (inputOf (netIn w) a kind, outputOf (netIn w) a kind)
-  arc-good = arc-has (netIn w .kindOf) (GoodArc (netIn w)) kind (netIn w .arcs a) (ready-loaded w b (M .known .counted .ready) .arc-good a (M .known .counted .act-in)) own-kind-taken
+  arc-good = arc-has (netIn w .kindOf) (GoodArc (netIn w)) kind (netIn w .arcs a) (ready-loaded w b (M .counted .ready) .arc-good a (M .counted .act-in)) own-kind-taken
 
   pub inp-in : inputOf (netIn w) a kind < l .places
-  inp-in = omega (arith, arc-good .inp, placed w b l a os (M .known) .places-are)
+  inp-in = omega (arith, arc-good .inp, placed w b l a os M .places-are)
 
   pub out-in : outputOf (netIn w) a kind < l .places
-  out-in = omega (arith, arc-good .out, placed w b l a os (M .known) .places-are)
+  out-in = omega (arith, arc-good .out, placed w b l a os M .places-are)

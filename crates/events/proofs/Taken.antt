@@ -35,7 +35,7 @@ module _ (w b : List ℕ) (l : Layout) (a : ℕ) (os : List ℕ) (M : Moving w b
   m = movedState (netIn w) d a os
 
   placed : Placed (netIn w) (tableIn b) l m
-  placed = placed-same (netIn w) (tableIn b) l d m (placed-at w b l (M .known .counted .ready) (M .known .counted .lay)) refl (length-walked (map (leg (netIn w) (d .kinds) a) os) (d .places)) refl
+  placed = placed-same (netIn w) (tableIn b) l d m (placed-at w b l (M .counted .ready) (M .counted .lay)) refl (length-walked (map (leg (netIn w) (d .kinds) a) os) (d .places)) refl
       (length-tally (map (λ (h : Hop). h .act) (keep jumped (hops (d .places) (map (leg (netIn w) (d .kinds) a) os)))) (d .jumps))
       (length-tally (map (hopIndex (netIn w)) (keep jumped (hops (d .places) (map (leg (netIn w) (d .kinds) a) os)))) (d .pairs))
 
@@ -48,8 +48,8 @@ module _ (w b : List ℕ) (l : Layout) (a : ℕ) (os : List ℕ) (M : Moving w b
 
   fired-more : bump (numbersOf (tableIn b) (withEvents m (suc (d .events)))) (l .counts + (3 + 2 * a)) ≡ numbersOf (tableIn b) (afterEvent (netIn w) d (record { act = a; objs = os }))
   fired-more =
-      ap (λ (v : ℕ). set (numbersOf (tableIn b) (withEvents m (suc (d .events)))) (l .counts + (3 + 2 * a)) (suc v)) (get-fired (netIn w) (tableIn b) l (withEvents m (suc (d .events))) placed-events a (M .known .counted .act-in))
-      ∙ put-fired (netIn w) (tableIn b) l (withEvents m (suc (d .events))) placed-events a (suc (getD (d .fired) a 0)) (M .known .counted .act-in)
+      ap (λ (v : ℕ). set (numbersOf (tableIn b) (withEvents m (suc (d .events)))) (l .counts + (3 + 2 * a)) (suc v)) (get-fired (netIn w) (tableIn b) l (withEvents m (suc (d .events))) placed-events a (M .counted .act-in))
+      ∙ put-fired (netIn w) (tableIn b) l (withEvents m (suc (d .events))) placed-events a (suc (getD (d .fired) a 0)) (M .counted .act-in)
 
   pub event-counted : bump (bump (numbersOf (tableIn b) m) (l .counts + 1)) (l .counts + (3 + 2 * a)) ≡ numbersOf (tableIn b) (afterEvent (netIn w) d (record { act = a; objs = os }))
   event-counted = ap (λ (v : List ℕ). bump v (l .counts + (3 + 2 * a))) events-more ∙ fired-more
@@ -57,11 +57,11 @@ module _ (w b : List ℕ) (l : Layout) (a : ℕ) (os : List ℕ) (M : Moving w b
   pub can-events : CanAdd (l .counts + 1) 1 (numbersOf (tableIn b) m)
   can-events = record {
     inside = omega (arith, record-size (netIn w) (tableIn b) l m placed, placed .jumps-at);
-    room = omega (arith, get-events (netIn w) (tableIn b) l m placed, ready-sound w b (M .known .counted .ready) .events);
+    room = omega (arith, get-events (netIn w) (tableIn b) l m placed, ready-sound w b (M .counted .ready) .events);
   }
 
   pub can-fired : CanAdd (l .counts + (3 + 2 * a)) 1 (bump (numbersOf (tableIn b) m) (l .counts + 1))
-  can-fired = let R = M .known .counted .ready in let h = M .known .counted .act-in in rw events-more (record {
+  can-fired = let R = M .counted .ready in let h = M .counted .act-in in rw events-more (record {
     inside = omega (arith, record-size (netIn w) (tableIn b) l (withEvents m (suc (d .events))) placed-events, placed .jumps-at);
     room = omega (arith, get-fired (netIn w) (tableIn b) l (withEvents m (suc (d .events))) placed-events a h, fired-le (netIn w) (ready-loaded w b R) d (ready-sound w b R) a h);
   })
@@ -71,7 +71,8 @@ pub can-take : (w b : List ℕ) (l : Layout) (a : ℕ) (os : List ℕ) → Ready
 can-take w b l a os R e z =
     let t = accepted (netIn w) (stateAt b .kinds) (stateAt b .closed) (stateAt b .events) (record { act = a; objs = os }) z in
     record {
-      known = record { counted = record { ready = R; lay = e; act-in = t .fits .act-in; size = t .fits .size }; known = t .fits .known };
+      counted = record { ready = R; lay = e; act-in = t .fits .act-in; size = t .fits .size };
+      known = t .fits .known;
       taken = t .fits .taken;
     }
 

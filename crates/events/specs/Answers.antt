@@ -1,5 +1,5 @@
 -- The answers to an event and to a close as document 01's numbers, and what an event's tests may rely on.
-use Prim.Native.Nat.{ℕ, _<_}
+use Prim.Native.Nat.{ℕ, _≤_, _<_}
 use mathlib.Core.Bool.{true}
 use mathlib.Core.Path.{_≡_}
 use mathlib.Core.List.{List}
@@ -31,6 +31,11 @@ abbrev pub closeCode : CloseAnswer → ℕ
 closeCode Shut = 0
 closeCode AlreadyClosed = 31
 
+-- a number that the tests of an event's objects give: 25 to 27, or 0
+pub record ObjectCode (n : ℕ) : Type 0 where
+  pub few : n ≤ 27
+  pub many : (n ≡ 0 → ⊥) → 25 ≤ n
+
 -- an event and a close that are put to a trail
 abbrev pub askEvent : ℕ → List ℕ → Ask
 askEvent a os = event (record { act = a; objs = os })
@@ -45,14 +50,10 @@ pub record Counted (w b : List ℕ) (l : Layout) (a : ℕ) (os : List ℕ) : Typ
   pub act-in : a < netIn w .acts
   pub size : length os ≡ length (netIn w .arcs a)
 
--- and the objects are in the register
-pub record Known (w b : List ℕ) (l : Layout) (a : ℕ) (os : List ℕ) : Type 0 where
+-- and the objects are in the register, and the activity takes their kinds
+pub record Moving (w b : List ℕ) (l : Layout) (a : ℕ) (os : List ℕ) : Type 0 where
   pub counted : Counted w b l a os
   pub known : All (λ (o : ℕ). o < length (stateAt b .kinds)) os
-
--- and the activity takes their kinds
-pub record Moving (w b : List ℕ) (l : Layout) (a : ℕ) (os : List ℕ) : Type 0 where
-  pub known : Known w b l a os
   pub taken : All (λ (k : ℕ). takes (netIn w) a k ≡ true) (kindsOf (stateAt b .kinds) os)
 
 -- the first of the numbers ks are the objects' kinds

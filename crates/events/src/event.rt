@@ -3,18 +3,15 @@
 use crate::moves::add;
 use crate::moves::add_one;
 use crate::moves::move_object;
-use replay::kinds::two_of_kind;
 use replay::layout::Layout;
 use replay::layout::read_layout;
+use replay::objects::refuse_objects;
 ghost use mathlib.Core.Path.{_≡_};
-ghost use mathlib.Core.Bool.{false, not};
 ghost use Prim.Native.Nat.{ℕ, _≤_, _<_};
 ghost use lib.ListN.{length, take};
-ghost use lib.Dec.{leb};
-ghost use Rattle.words.specs.Lists.{All, any};
+ghost use Rattle.words.specs.Lists.{All};
 ghost use Rattle.words.specs.Refusals.{first};
 ghost use Rattle.words.specs.Words.{wordsOf};
-ghost use Rattle.net.specs.Net.{takes};
 ghost use Rattle.net.specs.Held.{netIn};
 ghost use Rattle.replay.specs.Plain.{kindsOf, objectTests};
 ghost use Rattle.replay.specs.State.{answerS, afterEvent};
@@ -23,7 +20,7 @@ ghost use Rattle.replay.specs.Calls.{stateAt, askCode, askBytes};
 ghost use Rattle.replay.specs.Offsets.{layoutOf};
 ghost use Rattle.replay.specs.Ready.{Ready};
 ghost use Rattle.events.specs.Moves.{numbersOf, movedState};
-ghost use Rattle.events.specs.Answers.{eventCode, askEvent, Counted, Known, Moving, Kinds};
+ghost use Rattle.events.specs.Answers.{eventCode, askEvent, ObjectCode, Counted, Moving, Kinds};
 
 // The answer to an event. `eventCode` gives document 01's number.
 pub enum EventAnswer {
@@ -44,47 +41,21 @@ pub enum EventAnswer {
     TwoOfKind,
 }
 
-// 25: an object is unknown.
-fn unknown(objects: usize, objs: &[u32]) -> bool
-    ensures { λ r. ⌜ r ≡ any (λ (o : ℕ). leb objects o) (now (objs .entry)) ⌝ }
+// The answer of a number that the tests of an event's objects give.
+fn object_answer(code: u32) -> EventAnswer
+    requires { ⌜ ObjectCode code ⌝ }
+    ensures { λ r. ⌜ eventCode r ≡ code ⌝ }
 {
-    let mut i = 0;
-    while i < objs.len() {
-        if objects <= (objs[i] as usize) {
-            return true;
-        }
-        i += 1;
+    match code {
+        0 => EventAnswer::Taken,
+        25 => EventAnswer::Object,
+        26 => EventAnswer::Kind,
+        _ => EventAnswer::TwoOfKind,
     }
-    false
-}
-
-// 26: an object is of a kind that the activity does not take. Where there is none, the kinds of all are kept.
-fn foreign(
-    rec: &[u8],
-    t: &[u32; 1684],
-    lay: Layout,
-    act: usize,
-    objs: &[u32],
-    kinds: &mut [u32; 8],
-) -> bool
-    requires { ⌜ Known (now t) (now rec) lay act (now objs) ⌝ }
-    requires { ⌜ length (now kinds) ≡ 8 ⌝ }
-    ensures { λ r. ⌜ (r ≡ any (λ (k : ℕ). not (takes (netIn (now (t .entry))) act k)) (kindsOf (stateAt (now (rec .entry)) .kinds) (now (objs .entry)))) × (r ≡ false → take (length (now (objs .entry))) (now (kinds .exit)) ≡ kindsOf (stateAt (now (rec .entry)) .kinds) (now (objs .entry))) ⌝ }
-{
-    let mut i = 0;
-    while i < objs.len() {
-        let k = words::get_word(rec, lay.register + (objs[i] as usize));
-        if !net::look::takes_kind(t, act, k as usize) {
-            return true;
-        }
-        kinds[i] = k;
-        i += 1;
-    }
-    false
 }
 
 // 25 to 27: the tests of an event's objects. Where none applies, their kinds are put into `kinds`.
-fn refuse_objects(
+fn test_objects(
     rec: &[u8],
     t: &[u32; 1684],
     lay: Layout,
@@ -97,16 +68,9 @@ fn refuse_objects(
     ensures code { λ r. ⌜ eventCode r ≡ first (objectTests (netIn (now (t .entry))) (stateAt (now (rec .entry)) .kinds) act (now (objs .entry))) ⌝ }
     ensures kinds { λ r. ⌜ (eventCode r ≡ 0 → Kinds (now (rec .entry)) (now (objs .entry)) (now (kinds .exit))) ⌝ }
 {
-    if unknown(lay.objects, objs) {
-        return EventAnswer::Object;
-    }
-    if foreign(rec, t, lay, act, objs, kinds) {
-        return EventAnswer::Kind;
-    }
-    if two_of_kind(kinds, objs.len()) {
-        return EventAnswer::TwoOfKind;
-    }
-    EventAnswer::Taken
+    let from = 4 * lay.register;
+    let to = 4 * lay.positions;
+    object_answer(refuse_objects(objs, act, &rec[from..to], t, kinds))
 }
 
 // 21 to 27: the first that applies. Where none does, the objects' kinds are put into `kinds`.
@@ -136,7 +100,7 @@ fn refuse(
     if objs.len() != net::look::arcs(t, act) {
         return EventAnswer::Number;
     }
-    refuse_objects(rec, t, lay, act, objs, kinds)
+    test_objects(rec, t, lay, act, objs, kinds)
 }
 
 // The kinds of known objects, by the register's bytes.

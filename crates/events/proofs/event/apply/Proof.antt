@@ -34,10 +34,10 @@ part-read-kinds-end : tie.Need-part-read-kinds-end
 part-read-kinds-end c = omega (arith, register-fits _ _ _ (c .before .before .before .before .before .before .before .pre .0) (c .before .before .before .read-layout .ensures))
 
 read-kinds-requires : tie.Need-read-kinds-requires
-read-kinds-requires c κs = let m = moving (c .before .before .before .before .before) in (rw (register-words _ _ _ (m .known .counted .ready) (m .known .counted .lay)) (m .known .known), (few-objects _ _ _ _ _ (m .known .counted), refl))
+read-kinds-requires c κs = let m = moving (c .before .before .before .before .before) in (rw (register-words _ _ _ (m .counted .ready) (m .counted .lay)) (m .known), (few-objects _ _ _ _ _ (m .counted), refl))
 
 take-event-requires : tie.Need-take-event-requires
-take-event-requires c κs = let m = moving (c .before .before .before .before .before .before .before .before) in (m, c .before .before .read-kinds .ensures ∙ ap (λ (ks : List ℕ). kindsOf ks (c .before .before .before .before .before .before .before .before .before .before .before .before .args .objs .now)) (register-words _ _ _ (m .known .counted .ready) (m .known .counted .lay)))
+take-event-requires c κs = let m = moving (c .before .before .before .before .before .before .before .before) in (m, c .before .before .read-kinds .ensures ∙ ap (λ (ks : List ℕ). kindsOf ks (c .before .before .before .before .before .before .before .before .before .before .before .before .args .objs .now)) (register-words _ _ _ (m .counted .ready) (m .counted .lay)))
 
 same-length : tie.Need-same-length
 same-length c = search needs

@@ -58,11 +58,11 @@ arcs-requires c κs = let s = c .before .before .before .before .before .before 
 returns-4 : tie.Need-returns-4
 returns-4 c = (rw (t1 (c .before .before .before .before .before .before .before), t2 (c .before .before .before .before), t3 (c .before .before), ap not (ne-eqb _ _ (rw (c .before .arcs .ensures) at (c .if4 .taken)))) refl, λ z. absurd (omega arith))
 
-refuse-objects-requires : tie.Need-refuse-objects-requires
-refuse-objects-requires c κs = let s = c .before .before .before .before .before .before .before .before .before .before .before .before in (record { ready = s .pre .0; lay = s .pre .1 .0; act-in = rw (c .before .before .before .before .acts .ensures) at (c .before .before .before .if3 .left); size = c .before .if4 .left ∙ c .before .before .arcs .ensures }, s .pre .1 .1)
+test-objects-requires : tie.Need-test-objects-requires
+test-objects-requires c κs = let s = c .before .before .before .before .before .before .before .before .before .before .before .before in (record { ready = s .pre .0; lay = s .pre .1 .0; act-in = rw (c .before .before .before .before .acts .ensures) at (c .before .before .before .if3 .left); size = c .before .if4 .left ∙ c .before .before .arcs .ensures }, s .pre .1 .1)
 
 returns-5 : tie.Need-returns-5
-returns-5 c = (rw (t1 (c .before .before .before .before .before .before .before .before .before), t2 (c .before .before .before .before .before .before), t3 (c .before .before .before .before), t4 (c .before .before)) (c .refuse-objects .ensures .0), c .refuse-objects .ensures .1)
+returns-5 c = (rw (t1 (c .before .before .before .before .before .before .before .before .before), t2 (c .before .before .before .before .before .before), t3 (c .before .before .before .before), t4 (c .before .before)) (c .test-objects .ensures .0), c .test-objects .ensures .1)
 
 pub refuse-spec : {M : Type 1} → statement M
 refuse-spec =
@@ -77,5 +77,5 @@ refuse-spec =
     returns-3
     arcs-requires
     returns-4
-    refuse-objects-requires
+    test-objects-requires
     returns-5)

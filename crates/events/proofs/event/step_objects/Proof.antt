@@ -1,7 +1,7 @@
 -- `step_objects` meets its contract: with the sum of the jumps added, the record's numbers are those of a state from which the objects left lead to the state sought. Assumes nothing.
 use borrow.Author.Needs.{needs}
-use Prim.Native.Nat.{ℕ, _+_, _≤_, _<_, _-_}
-use mathlib.Core.Path.{_≡_, refl, ap, _∙_}
+use Prim.Native.Nat.{_+_, _≤_, _<_, _-_}
+use mathlib.Core.Path.{_≡_, refl, _∙_}
 use native.Mathlib.Omega.{arith}
 use lib.ListN.{length, getD, drop}
 use Rattle.words.specs.Words.{wordsOf}
@@ -25,11 +25,11 @@ abbrev μ-loop : tie.MeasureT-loop
 
 -- the object is in the register, and the kind kept is its own
 known-at : (c : tie.After-wide Inv-loop μ-loop) → c .wide .result < c .before .before .before .before .before .before .args .lay .objects
-known-at c = rw (c .wide .ensures) (object-in _ _ _ _ _ (c .before .before .before .before .before .before .pre .0 .known) (c .before .before .before .loop .done) (c .before .before .loop-test .taken))
+known-at c = rw (c .wide .ensures) (object-in _ _ _ _ _ (c .before .before .before .before .before .before .pre .0) (c .before .before .before .loop .done) (c .before .before .loop-test .taken))
 
 kind-at : (c : tie.After-wide2 Inv-loop μ-loop) → c .wide2 .result ≡ getD (stateAt (c .before .before .before .before .before .before .before .before .args .rec .now) .kinds) (getD (c .before .before .before .before .before .before .before .before .args .objs .now) (c .before .before .before .before .before .loop .done) 0) 0
 kind-at c = let s = c .before .before .before .before .before .before .before .before in
-    c .wide2 .ensures ∙ kind-kept _ _ _ _ _ (s .pre .0 .known) (s .args .kinds .now) (s .pre .1) (c .before .before .before .before .before .loop .done) (c .before .before .before .before .loop-test .taken)
+    c .wide2 .ensures ∙ kind-kept _ _ _ _ _ (s .pre .0) (s .args .kinds .now) (s .pre .1) (c .before .before .before .before .before .loop .done) (c .before .before .before .before .loop-test .taken)
 
 -- its places are known
 inp-at : (c : tie.After-input Inv-loop μ-loop) → c .input .result < c .before .before .before .before .before .before .before .before .before .args .lay .places
@@ -39,7 +39,7 @@ out-at : (c : tie.After-output Inv-loop μ-loop) → c .output .result < c .befo
 out-at c = rw (c .output .ensures, kind-at (c .before .before)) (out-in _ _ _ _ _ (c .before .before .before .before .before .before .before .before .before .before .pre .0) (c .before .before .before .before .before .before .before .loop .done) (c .before .before .before .before .before .before .loop-test .taken))
 
 loop-holds : tie.Need-loop-holds Inv-loop μ-loop
-loop-holds c = let s = c .before .before in (omega arith, omega arith, refl, record { state = stateAt (s .args .rec .now); sum = sum-start _ _ _ _ _ _ _ (walk-start _ _ _ (s .pre .0 .known .counted .ready) (s .pre .0 .known .counted .lay)) (omega arith) (own-in _ _ _ _ _ (s .pre .0 .known) .0); same = refl; left = refl })
+loop-holds c = let s = c .before .before in (omega arith, omega arith, refl, record { state = stateAt (s .args .rec .now); sum = sum-start _ _ _ _ _ _ _ (walk-start _ _ _ (s .pre .0 .counted .ready) (s .pre .0 .counted .lay)) (omega arith) (own-in _ _ _ _ _ (s .pre .0) .0); same = refl; left = refl })
 
 mul-wide : tie.Need-mul-wide Inv-loop μ-loop
 mul-wide c = search needs
@@ -54,31 +54,31 @@ mul-wide-2 : tie.Need-mul-wide-2 Inv-loop μ-loop
 mul-wide-2 c = search needs
 
 element-copy-out-wide : tie.Need-element-copy-out-wide Inv-loop μ-loop
-element-copy-out-wide c = let s = c .before .before .before .before .before .before in omega (arith, few-objects _ _ _ _ _ (s .pre .0 .known .counted))
+element-copy-out-wide c = let s = c .before .before .before .before .before .before in omega (arith, few-objects _ _ _ _ _ (s .pre .0 .counted))
 
 wide-requires-2 : tie.Need-wide-requires-2 Inv-loop μ-loop
 wide-requires-2 c κs = search needs
 
 input-requires : tie.Need-input-requires Inv-loop μ-loop
 input-requires c κs = let s = c .before .before .before .before .before .before .before .before in
-    (s .pre .0 .known .counted .ready .held, (s .pre .0 .known .counted .act-in, rw (kind-at c) (own-kind-in _ _ _ _ _ (s .pre .0) (c .before .before .before .before .before .loop .done) (c .before .before .before .before .loop-test .taken)), rw (kind-at c) (own-kind-taken _ _ _ _ _ (s .pre .0) (c .before .before .before .before .before .loop .done) (c .before .before .before .before .loop-test .taken))))
+    (s .pre .0 .counted .ready .held, (s .pre .0 .counted .act-in, rw (kind-at c) (own-kind-in _ _ _ _ _ (s .pre .0) (c .before .before .before .before .before .loop .done) (c .before .before .before .before .loop-test .taken)), rw (kind-at c) (own-kind-taken _ _ _ _ _ (s .pre .0) (c .before .before .before .before .before .loop .done) (c .before .before .before .before .loop-test .taken))))
 
 output-requires : tie.Need-output-requires Inv-loop μ-loop
 output-requires c κs = let s = c .before .before .before .before .before .before .before .before .before in
-    (s .pre .0 .known .counted .ready .held, (s .pre .0 .known .counted .act-in, rw (kind-at (c .before)) (own-kind-in _ _ _ _ _ (s .pre .0) (c .before .before .before .before .before .before .loop .done) (c .before .before .before .before .before .loop-test .taken)), rw (kind-at (c .before)) (own-kind-taken _ _ _ _ _ (s .pre .0) (c .before .before .before .before .before .before .loop .done) (c .before .before .before .before .before .loop-test .taken))))
+    (s .pre .0 .counted .ready .held, (s .pre .0 .counted .act-in, rw (kind-at (c .before)) (own-kind-in _ _ _ _ _ (s .pre .0) (c .before .before .before .before .before .before .loop .done) (c .before .before .before .before .before .loop-test .taken)), rw (kind-at (c .before)) (own-kind-taken _ _ _ _ _ (s .pre .0) (c .before .before .before .before .before .before .loop .done) (c .before .before .before .before .before .loop-test .taken))))
 
 cast-out : tie.Need-cast-out Inv-loop μ-loop
-cast-out c = let s = c .before .before .before .before .before .before .before .before .before .before in omega (arith, out-at c, placed-at _ _ _ (s .pre .0 .known .counted .ready) (s .pre .0 .known .counted .lay) .places-few)
+cast-out c = let s = c .before .before .before .before .before .before .before .before .before .before in omega (arith, out-at c, placed-at _ _ _ (s .pre .0 .counted .ready) (s .pre .0 .counted .lay) .places-few)
 
 move-object-requires : tie.Need-move-object-requires Inv-loop μ-loop
 move-object-requires c κs = let s = c .before .before .before .before .before .before .before .before .before .before .before in let l = c .before .before .before .before .before .before .before .before .loop in
-    can-move _ _ _ (8001025 + l .done) _ _ _ _ (l .inv .3 .sum) _ _ (known-at (c .before .before .before .before .before)) (inp-at (c .before .before)) (omega (arith, few-objects _ _ _ _ _ (s .pre .0 .known .counted)))
+    can-move _ _ _ (8001025 + l .done) _ _ _ _ (l .inv .3 .sum) _ _ (known-at (c .before .before .before .before .before)) (inp-at (c .before .before)) (omega (arith, few-objects _ _ _ _ _ (s .pre .0 .counted)))
 
 add-jumps : tie.Need-add-jumps Inv-loop μ-loop
-add-jumps c = omega (arith, c .before .before .move-object .ensures .2, c .before .before .before .before .before .before .before .before .before .before .before .loop .inv .1, c .before .before .before .before .before .before .before .before .before .before .loop-test .taken, few-objects _ _ _ _ _ (c .before .before .before .before .before .before .before .before .before .before .before .before .before .before .pre .0 .known .counted))
+add-jumps c = omega (arith, c .before .before .move-object .ensures .2, c .before .before .before .before .before .before .before .before .before .before .before .loop .inv .1, c .before .before .before .before .before .before .before .before .before .before .loop-test .taken, few-objects _ _ _ _ _ (c .before .before .before .before .before .before .before .before .before .before .before .before .before .before .pre .0 .counted))
 
 add-done : tie.Need-add-done Inv-loop μ-loop
-add-done c = omega (arith, c .before .before .before .before .before .before .before .before .before .before .loop-test .taken, few-objects _ _ _ _ _ (c .before .before .before .before .before .before .before .before .before .before .before .before .before .before .pre .0 .known .counted))
+add-done c = omega (arith, c .before .before .before .before .before .before .before .before .before .before .loop-test .taken, few-objects _ _ _ _ _ (c .before .before .before .before .before .before .before .before .before .before .before .before .before .before .pre .0 .counted))
 
 loop-less : tie.Need-loop-less Inv-loop μ-loop
 loop-less c = search needs
@@ -89,21 +89,21 @@ loop-again c = let s = c .before .before .before .before .before .before .before
   omega (arith, m .ensures .2),
   omega arith,
   rw (m .ensures .0, m .ensures .1, i .input .ensures, o .output .ensures, c .before .before .before .before .before .before .before .before .wide .ensures)
-      (step-turn _ _ _ (8001025 + l .done) _ _ _ _ _ _ (l .done) (l .inv .3) (8001025 + (l .done + 1)) (c .before .before .before .before .before .before .wide2 .result) h (kind-at (c .before .before .before .before .before .before)) (s .pre .0 .known .counted .act-in) (object-in _ _ _ _ _ (s .pre .0 .known) (l .done) h) (rw (i .input .ensures) at (inp-at i)) (rw (o .output .ensures) at (out-at o)) (omega arith)),
+      (step-turn _ _ _ (8001025 + l .done) _ _ _ _ _ _ (l .done) (l .inv .3) (8001025 + (l .done + 1)) (c .before .before .before .before .before .before .wide2 .result) h (kind-at (c .before .before .before .before .before .before)) (s .pre .0 .counted .act-in) (object-in _ _ _ _ _ (s .pre .0) (l .done) h) (rw (i .input .ensures) at (inp-at i)) (rw (o .output .ensures) at (out-at o)) (omega arith)),
 )
 
 mul-add : tie.Need-mul-add Inv-loop μ-loop
-mul-add c = omega (arith, own-in _ _ _ _ _ (c .before .before .before .before .before .pre .0 .known))
+mul-add c = omega (arith, own-in _ _ _ _ _ (c .before .before .before .before .before .pre .0))
 
 add-add : tie.Need-add-add Inv-loop μ-loop
-add-add c = omega (arith, own-in _ _ _ _ _ (c .before .before .before .before .before .pre .0 .known))
+add-add c = omega (arith, own-in _ _ _ _ _ (c .before .before .before .before .before .pre .0))
 
 add-add-2 : tie.Need-add-add-2 Inv-loop μ-loop
-add-add-2 c = omega (arith, own-in _ _ _ _ _ (c .before .before .before .before .before .before .pre .0 .known))
+add-add-2 c = omega (arith, own-in _ _ _ _ _ (c .before .before .before .before .before .before .pre .0))
 
 add-requires : tie.Need-add-requires Inv-loop μ-loop
 add-requires c κs = let s = c .before .before .before .before .before .before in let l = c .before .before .before .loop in
-    can-add-sum _ _ _ (8001025 + l .done) _ _ _ _ (l .inv .3 .sum) (omega (arith, l .inv .0, few-objects _ _ _ _ _ (s .pre .0 .known .counted)))
+    can-add-sum _ _ _ (8001025 + l .done) _ _ _ _ (l .inv .3 .sum) (omega (arith, l .inv .0, few-objects _ _ _ _ _ (s .pre .0 .counted)))
 
 same-length : tie.Need-same-length Inv-loop μ-loop
 same-length c = search needs

@@ -14,19 +14,19 @@ step-objects-requires : tie.Need-step-objects-requires
 step-objects-requires c κs = search needs
 
 add-add-one : tie.Need-add-add-one
-add-add-one c = let s = c .before .before .before .before .before .before .before .before in omega (arith, counts-few _ _ _ (s .pre .0 .known .counted .ready) (s .pre .0 .known .counted .lay), s .pre .0 .known .counted .act-in)
+add-add-one c = let s = c .before .before .before .before .before .before .before .before in omega (arith, counts-few _ _ _ (s .pre .0 .counted .ready) (s .pre .0 .counted .lay), s .pre .0 .counted .act-in)
 
 add-one-requires : tie.Need-add-one-requires
 add-one-requires c κs = rw (c .before .before .before .before .step-objects .ensures) (can-events _ _ _ _ _ (c .before .before .before .before .before .before .before .before .pre .0))
 
 mul-add-one : tie.Need-mul-add-one
-mul-add-one c = let s = c .before .before .before .before .before .before .before .before .before .before .before .before in omega (arith, counts-few _ _ _ (s .pre .0 .known .counted .ready) (s .pre .0 .known .counted .lay), s .pre .0 .known .counted .act-in)
+mul-add-one c = let s = c .before .before .before .before .before .before .before .before .before .before .before .before in omega (arith, counts-few _ _ _ (s .pre .0 .counted .ready) (s .pre .0 .counted .lay), s .pre .0 .counted .act-in)
 
 add-add-one-2 : tie.Need-add-add-one-2
-add-add-one-2 c = let s = c .before .before .before .before .before .before .before .before .before .before .before .before in omega (arith, counts-few _ _ _ (s .pre .0 .known .counted .ready) (s .pre .0 .known .counted .lay), s .pre .0 .known .counted .act-in)
+add-add-one-2 c = let s = c .before .before .before .before .before .before .before .before .before .before .before .before in omega (arith, counts-few _ _ _ (s .pre .0 .counted .ready) (s .pre .0 .counted .lay), s .pre .0 .counted .act-in)
 
 add-add-one-3 : tie.Need-add-add-one-3
-add-add-one-3 c = let s = c .before .before .before .before .before .before .before .before .before .before .before .before .before in omega (arith, counts-few _ _ _ (s .pre .0 .known .counted .ready) (s .pre .0 .known .counted .lay), s .pre .0 .known .counted .act-in)
+add-add-one-3 c = let s = c .before .before .before .before .before .before .before .before .before .before .before .before .before in omega (arith, counts-few _ _ _ (s .pre .0 .counted .ready) (s .pre .0 .counted .lay), s .pre .0 .counted .act-in)
 
 add-one-requires-2 : tie.Need-add-one-requires-2
 add-one-requires-2 c κs = rw (c .before .before .before .before .add-one .ensures, c .before .before .before .before .before .before .before .before .before .step-objects .ensures) (can-fired _ _ _ _ _ (c .before .before .before .before .before .before .before .before .before .before .before .before .before .pre .0))
