@@ -4,7 +4,8 @@
 ghost use mathlib.Core.Path.{_≡_};
 ghost use Prim.Native.Nat.{_≤_};
 ghost use Rattle.starting.specs.StartAnswers.{startAnswerCode};
-ghost use Rattle.events.specs.Answers.{eventCode, closeCode};
+ghost use Rattle.events.specs.Answers.{eventCode};
+ghost use Rattle.closing.specs.Answers.{closeCode};
 ghost use Rattle.checkpoint.specs.Answers.{restoreAnswerCode, restoreAnswerSecond, resumedCode, resumedSecond, savedCode};
 ghost use Rattle.lines.specs.Answer as lines;
 ghost use Rattle.answers.specs.Answers.{packed};
@@ -41,12 +42,12 @@ pub fn event_code(r: events::event::EventAnswer) -> u32
     }
 }
 
-pub fn close_code(r: events::close::CloseAnswer) -> u32
+pub fn close_code(r: closing::CloseAnswer) -> u32
     ensures { λ n. ⌜ n ≡ closeCode r ⌝ }
 {
     match r {
-        events::close::CloseAnswer::Taken => 0,
-        events::close::CloseAnswer::AlreadyClosed => 31,
+        closing::CloseAnswer::Taken => 0,
+        closing::CloseAnswer::AlreadyClosed => 31,
     }
 }
 

@@ -13,7 +13,8 @@ ghost use lib.ListN.{length};
 ghost use Rattle.replay.specs.Calls.{askCode, askBytes};
 ghost use Rattle.replay.specs.Ready.{Ready};
 ghost use Rattle.starting.specs.Startable.{Startable};
-ghost use Rattle.events.specs.Answers.{askEvent, askClose};
+ghost use Rattle.events.specs.Answers.{askEvent};
+ghost use Rattle.closing.specs.Answers.{askClose};
 ghost use Rattle.checkpoint.specs.Calls.{saveCode, saveBytes};
 ghost use Rattle.answers.specs.Answers.{packed, wrote};
 ghost use Rattle.lent.specs.Objects.{objectsIn};
@@ -46,7 +47,7 @@ pub fn put_close(trail: &mut [u8], t: &[u32; 1684]) -> u64
     requires { ⌜ Ready (now t) (now trail) ⌝ }
     ensures { λ r. ⌜ (r ≡ packed (askCode (now (trail .entry)) askClose) 0) × (now (trail .exit) ≡ askBytes (now (trail .entry)) askClose) ⌝ }
 {
-    pack(close_code(events::close::close(trail, t)), 0)
+    pack(close_code(closing::close(trail, t)), 0)
 }
 
 pub fn put_save(trail: &[u8], lent: &mut [u8]) -> u64

@@ -1,7 +1,7 @@
 -- An event put to a record: the layout fits, its objects are in the register, and their kinds are read there. Assumes nothing.
 use Prim.Native.Nat.{ℕ, _+_, _-_, _*_, _≤_, _<_}
 use mathlib.Core.Bool.{Bool, true, false, not}
-use mathlib.Core.Path.{_≡_, refl, ap, sym, _∙_, subst}
+use mathlib.Core.Path.{_≡_, refl, ap, sym, _∙_}
 use mathlib.Core.List.{List, [], _∷_, _++_, append-assoc}
 use native.Mathlib.Omega.{arith}
 use native.Mathlib.Numerals.{add-one}
@@ -24,7 +24,8 @@ use Rattle.replay.specs.Ready.{Ready, KnownKinds}
 use Rattle.events.specs.Answers.{ObjectCode, Counted, Moving, Kinds}
 use Rattle.replay.specs.declared.layout.Layout.{Layout}
 use Rattle.replay.proofs.Encode.{fit-kinds}
-use Rattle.replay.proofs.RecordLaws.{Placed, record-size, record-few, get-closed, get-events, ready-loaded, ready-sound, ready-words, ready-placed, ready-length}
+use Rattle.replay.proofs.RecordLaws.{Placed, get-events, ready-loaded, ready-sound, ready-words, ready-length}
+use Rattle.moves.proofs.Layouts.{placed-at, words-size, words-few, kind-of-in}
 
 -- kinds read one by one
 module _ (rs os : List ℕ) where
@@ -45,35 +46,20 @@ object-code N ks a os = go (any (λ (o : ℕ). leb (length ks) o) os) (any (λ (
     go false false true = record { few = omega arith; many = λ n. omega arith }
     go false false false = record { few = omega arith; many = λ n. absurd (n refl) }
 
--- the layout, and how many numbers there are
+-- the counts that are read, and the register
 module _ (w b : List ℕ) (l : Layout) (R : Ready w b) (e : l ≡ layoutOf (netIn w) b) where
-  pub placed-at : Placed (netIn w) (tableIn b) l (stateAt b)
-  placed-at = subst (λ (l : Layout). Placed (netIn w) (tableIn b) l (stateAt b)) (sym e) (ready-placed w b R)
-
-  pub words-size : length (wordsOf b) ≡ l .jumps + l .places * l .places
-  words-size = ap length (ready-words w b R) ∙ record-size (netIn w) (tableIn b) l (stateAt b) placed-at
-
-  pub words-few : length (wordsOf b) ≤ 7461
-  words-few = rw (ready-words w b R) (record-few (netIn w) (tableIn b) l (stateAt b) placed-at)
+  placed : Placed (netIn w) (tableIn b) l (stateAt b)
+  placed = placed-at w b l R e
 
   pub count-in : (i : ℕ) → i < 3 + 2 * netIn w .acts → l .counts + i < length (wordsOf b)
-  count-in i h = omega (arith, words-size, placed-at .jumps-at)
-
-  pub counts-few : l .counts + (3 + 2 * netIn w .acts) ≤ 7461
-  counts-few = omega (arith, words-size, words-few, placed-at .jumps-at)
-
-  pub closed-in : l .counts < length (wordsOf b)
-  closed-in = omega (arith, words-size, placed-at .jumps-at)
-
-  pub closed-read : getD (wordsOf b) (l .counts) 0 ≡ stateAt b .closed
-  closed-read = ap (λ (v : List ℕ). getD v (l .counts) 0) (ready-words w b R) ∙ get-closed (netIn w) (tableIn b) l (stateAt b) placed-at
+  count-in i h = omega (arith, words-size w b l R e, placed .jumps-at)
 
   pub events-read : getD (wordsOf b) (l .counts + 1) 0 ≡ stateAt b .events
-  events-read = ap (λ (v : List ℕ). getD v (l .counts + 1) 0) (ready-words w b R) ∙ get-events (netIn w) (tableIn b) l (stateAt b) placed-at
+  events-read = ap (λ (v : List ℕ). getD v (l .counts + 1) 0) (ready-words w b R) ∙ get-events (netIn w) (tableIn b) l (stateAt b) placed
 
   -- the register's bytes, and the kinds that they hold
   pub register-fits : (4 * l .register ≤ 4 * l .positions) × (4 * l .positions ≤ length b) × (length b ≤ 29844)
-  register-fits = omega (arith, words-size, words-few, ready-length w b R, placed-at .positions-at, placed-at .counts-at, placed-at .jumps-at)
+  register-fits = omega (arith, words-size w b l R e, words-few w b l R e, ready-length w b R, placed .positions-at, placed .counts-at, placed .jumps-at)
 
   pub register-words : wordsOf (take (4 * l .positions - 4 * l .register) (drop (4 * l .register) b)) ≡ stateAt b .kinds
   unfolding encode stateAt
@@ -81,33 +67,26 @@ module _ (w b : List ℕ) (l : Layout) (R : Ready w b) (e : l ≡ layoutOf (netI
       let d = stateIn (netAt b) b in
       let front : List ℕ = bytesOf (contents (tableIn b) d) ++ tableIn b in
       let rest : List ℕ = bytesOf (d .places) ++ (bytesOf (counts d) ++ bytesOf (d .pairs)) in
-      let n : length front ≡ 4 * l .register = simp (length-append, length-bytes) (omega (arith, placed-at .register-at, length-words (tableIn b), R .whole)) in
-      let m : length (bytesOf (d .kinds)) ≡ 4 * l .positions - 4 * l .register = omega (arith, length-bytes (d .kinds), placed-at .positions-at, placed-at .kinds-size) in
+      let n : length front ≡ 4 * l .register = simp (length-append, length-bytes) (omega (arith, placed .register-at, length-words (tableIn b), R .whole)) in
+      let m : length (bytesOf (d .kinds)) ≡ 4 * l .positions - 4 * l .register = omega (arith, length-bytes (d .kinds), placed .positions-at, placed .kinds-size) in
       let e : b ≡ front ++ (bytesOf (d .kinds) ++ rest) = R .intact .bytes ∙ sym (append-assoc (bytesOf (contents (tableIn b) d)) (tableIn b) _) in
       ap (λ (s : List ℕ). wordsOf (take (4 * l .positions - 4 * l .register) s)) (ap (drop (4 * l .register)) e ∙ drop-at front (bytesOf (d .kinds) ++ rest) (4 * l .register) n)
       ∙ ap wordsOf (take-at (bytesOf (d .kinds)) rest _ m)
       ∙ words-of-bytes (d .kinds) (fit-kinds (netIn w) (ready-loaded w b R) (stateAt b) (ready-sound w b R))
 
-  -- an object's kind, and its sink
-  pub kind-of-in : (o : ℕ) → o < l .objects → getD (stateAt b .kinds) o 0 < netIn w .kinds
-  kind-of-in o h = All-at (λ (k : ℕ). k < netIn w .kinds) 0 (stateAt b .kinds) (ready-sound w b R .kinds) o (omega (arith, placed-at .kinds-size))
-
   pub register-known : KnownKinds (netIn w) (wordsOf (take (4 * l .positions - 4 * l .register) (drop (4 * l .register) b)))
-  register-known = rw register-words (record { kind = λ o h. kind-of-in o (omega (arith, placed-at .kinds-size)) })
-
-  pub sink-of-in : (o : ℕ) → o < l .objects → netIn w .sink (getD (stateAt b .kinds) o 0) < l .places
-  sink-of-in o h = omega (arith, ready-loaded w b R .sink-in (getD (stateAt b .kinds) o 0) (kind-of-in o h), placed-at .places-are)
+  register-known = rw register-words (record { kind = λ o h. kind-of-in w b l R e o (omega (arith, placed .kinds-size)) })
 
 module _ (w b : List ℕ) (l : Layout) (a : ℕ) (os : List ℕ) (C : Counted w b l a os) where
   pub few-objects : length os ≤ 8
   few-objects = omega (arith, C .size, ready-loaded w b (C .ready) .arcs-le a (C .act-in))
 
 module _ (w b : List ℕ) (l : Layout) (a : ℕ) (os : List ℕ) (M : Moving w b l a os) where
-  placed : Placed (netIn w) (tableIn b) l (stateAt b)
-  placed = placed-at w b l (M .counted .ready) (M .counted .lay)
+  laid : Placed (netIn w) (tableIn b) l (stateAt b)
+  laid = placed-at w b l (M .counted .ready) (M .counted .lay)
 
   pub object-in : (i : ℕ) → i < length os → getD os i 0 < l .objects
-  object-in i h = omega (arith, All-at (λ (o : ℕ). o < length (stateAt b .kinds)) 0 os (M .known) i h, placed .kinds-size)
+  object-in i h = omega (arith, All-at (λ (o : ℕ). o < length (stateAt b .kinds)) 0 os (M .known) i h, laid .kinds-size)
 
   pub kinds-length : length (kindsOf (stateAt b .kinds) os) ≡ length os
   kinds-length = length-map os (λ (o : ℕ). getD (stateAt b .kinds) o 0)
@@ -122,7 +101,7 @@ module _ (w b : List ℕ) (l : Layout) (a : ℕ) (os : List ℕ) (M : Moving w b
   -- the jumps of the activity are one of the counts
   pub own-in : (l .counts + (4 + 2 * a) < l .jumps) × (l .jumps ≤ 7461)
   own-in =
-      (omega (arith, M .counted .act-in, placed .jumps-at), omega (arith, words-size w b l (M .counted .ready) (M .counted .lay), words-few w b l (M .counted .ready) (M .counted .lay)))
+      (omega (arith, M .counted .act-in, laid .jumps-at), omega (arith, words-size w b l (M .counted .ready) (M .counted .lay), words-few w b l (M .counted .ready) (M .counted .lay)))
 
 -- the kind of an event's object, and its places
 module _ (w b : List ℕ) (l : Layout) (a : ℕ) (os : List ℕ) (M : Moving w b l a os) (i : ℕ) (h : i < length os) where
@@ -139,7 +118,7 @@ module _ (w b : List ℕ) (l : Layout) (a : ℕ) (os : List ℕ) (M : Moving w b
   arc-good = arc-has (netIn w .kindOf) (GoodArc (netIn w)) kind (netIn w .arcs a) (ready-loaded w b (M .counted .ready) .arc-good a (M .counted .act-in)) own-kind-taken
 
   pub inp-in : inputOf (netIn w) a kind < l .places
-  inp-in = omega (arith, arc-good .inp, placed w b l a os M .places-are)
+  inp-in = omega (arith, arc-good .inp, laid w b l a os M .places-are)
 
   pub out-in : outputOf (netIn w) a kind < l .places
-  out-in = omega (arith, arc-good .out, placed w b l a os M .places-are)
+  out-in = omega (arith, arc-good .out, laid w b l a os M .places-are)

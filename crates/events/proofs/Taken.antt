@@ -1,31 +1,27 @@
--- What is left of an accepted event once its objects are moved, and the call's answer and bytes. Assumes nothing.
+-- What is left of an accepted event once its objects are moved. Assumes nothing.
 use Prim.Native.Nat.{ℕ, suc, _+_, _*_}
 use mathlib.Core.Path.{_≡_, refl, ap, _∙_}
-use mathlib.Core.List.{List, [], _∷_, map}
+use mathlib.Core.List.{List, map}
 use native.Mathlib.Omega.{arith}
-use lib.ListN.{length, getD, set, length-set}
-use borrow.Author.Tests.{eq-eqb, ne-eqb}
+use lib.ListN.{getD, set}
 use Rattle.words.specs.Lists.{keep}
-use Rattle.net.specs.Net.{Net}
 use Rattle.net.specs.Held.{netIn}
-use Rattle.replay.specs.Plain.{Ask, Leg, Hop, jumped, hops, walked, leg}
-use Rattle.replay.specs.State.{State, bump, hopIndex, afterEvent, answerS, acceptS}
-use Rattle.replay.specs.Record.{encode, tableIn}
-use Rattle.replay.specs.Calls.{stateAt, askCode, askBytes}
+use Rattle.replay.specs.Plain.{Hop, jumped, hops, leg}
+use Rattle.replay.specs.State.{State, bump, hopIndex, afterEvent, answerS}
+use Rattle.replay.specs.Record.{tableIn}
+use Rattle.replay.specs.Calls.{stateAt}
 use Rattle.replay.specs.Offsets.{layoutOf}
 use Rattle.replay.specs.Ready.{Ready}
-use Rattle.events.specs.Moves.{numbersOf, movedState, CanAdd}
+use Rattle.moves.specs.Moves.{numbersOf, CanAdd}
+use Rattle.events.specs.Moved.{movedState}
 use Rattle.events.specs.Answers.{askEvent, Moving}
 use Rattle.replay.specs.declared.layout.Layout.{Layout}
 use Rattle.replay.proofs.Accepted.{accepted}
 use Rattle.replay.proofs.Tally.{length-tally}
 use Rattle.replay.proofs.Encode.{fired-le}
 use Rattle.replay.proofs.RecordLaws.{Placed, placed-same, withEvents, record-size, get-events, get-fired, put-events, put-fired, ready-loaded, ready-sound}
-use Rattle.events.proofs.Asked.{placed-at}
-
-pub length-walked : (ls : List Leg) (ps : List ℕ) → length (walked ps ls) ≡ length ps
-length-walked [] ps = refl
-length-walked (l ∷ ls) ps = length-walked ls (set ps (l .obj) (l .out)) ∙ length-set ps (l .obj) (l .out)
+use Rattle.moves.proofs.Layouts.{placed-at}
+use Rattle.moves.proofs.Walk.{length-walked}
 
 module _ (w b : List ℕ) (l : Layout) (a : ℕ) (os : List ℕ) (M : Moving w b l a os) where
   abbrev d : State
@@ -75,17 +71,3 @@ can-take w b l a os R e z =
       known = t .fits .known;
       taken = t .fits .taken;
     }
-
--- the answer to a call, and the bytes that it leaves
-module _ (w b : List ℕ) (R : Ready w b) (q : Ask) where
-  pub code-is : answerS (netIn w) (stateAt b) q ≡ askCode b q
-  unfolding askCode
-  code-is = ap (λ (N : Net). answerS N (stateAt b) q) (R .net)
-
-  pub bytes-taken : (s : List ℕ) → askCode b q ≡ 0 → s ≡ encode (tableIn b) (acceptS (netIn w) (stateAt b) q) → s ≡ askBytes b q
-  unfolding askBytes
-  bytes-taken s z e = e ∙ ap (λ (N : Net). encode (tableIn b) (acceptS N (stateAt b) q)) (R .net) ∙ rw (eq-eqb (askCode b q) 0 z)
-
-  pub bytes-refused : (askCode b q ≡ 0 → ⊥) → b ≡ askBytes b q
-  unfolding askBytes
-  bytes-refused n = rw (ne-eqb (askCode b q) 0 n)

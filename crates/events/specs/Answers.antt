@@ -1,4 +1,4 @@
--- The answers to an event and to a close as document 01's numbers, and what an event's tests may rely on.
+-- The answer to an event as document 01's number, and what its tests may rely on.
 use Prim.Native.Nat.{ℕ, _≤_, _<_}
 use mathlib.Core.Bool.{true}
 use mathlib.Core.Path.{_≡_}
@@ -7,15 +7,13 @@ use lib.ListN.{length, take}
 use Rattle.words.specs.Lists.{All}
 use Rattle.net.specs.Net.{takes}
 use Rattle.net.specs.Held.{netIn}
-use Rattle.replay.specs.Plain.{Ask, event, close, kindsOf}
+use Rattle.replay.specs.Plain.{Ask, event, kindsOf}
 use Rattle.replay.specs.Calls.{stateAt}
 use Rattle.replay.specs.Offsets.{layoutOf}
 use Rattle.replay.specs.Ready.{Ready}
 use Rattle.replay.specs.declared.layout.Layout.{Layout}
 use Rattle.events.specs.declared.event.EventAnswer.{EventAnswer}
 use Rattle.events.specs.declared.event.EventAnswer.the-variants.{Taken, Closed, Full, Activity, Number, Object, Kind, TwoOfKind}
-use Rattle.events.specs.declared.close.CloseAnswer.{CloseAnswer}
-use Rattle.events.specs.declared.close.CloseAnswer.the-variants.{Taken as Shut, AlreadyClosed}
 
 abbrev pub eventCode : EventAnswer → ℕ
 eventCode Taken = 0
@@ -27,21 +25,14 @@ eventCode Object = 25
 eventCode Kind = 26
 eventCode TwoOfKind = 27
 
-abbrev pub closeCode : CloseAnswer → ℕ
-closeCode Shut = 0
-closeCode AlreadyClosed = 31
-
 -- a number that the tests of an event's objects give: 25 to 27, or 0
 pub record ObjectCode (n : ℕ) : Type 0 where
   pub few : n ≤ 27
   pub many : (n ≡ 0 → ⊥) → 25 ≤ n
 
--- an event and a close that are put to a trail
+-- an event that is put to a trail
 abbrev pub askEvent : ℕ → List ℕ → Ask
 askEvent a os = event (record { act = a; objs = os })
-
-abbrev pub askClose : Ask
-askClose = close
 
 -- a known activity and as many objects as it has arcs, with the layout of the record
 pub record Counted (w b : List ℕ) (l : Layout) (a : ℕ) (os : List ℕ) : Type 0 where

@@ -1,8 +1,8 @@
 // An event on a trail in lent bytes: refused with the first number from 21 to 27 that applies, or carried out in place.
 
-use crate::moves::add;
-use crate::moves::add_one;
-use crate::moves::move_object;
+use moves::add;
+use moves::add_one;
+use moves::move_object;
 use replay::layout::Layout;
 use replay::layout::read_layout;
 use replay::objects::refuse_objects;
@@ -19,8 +19,9 @@ ghost use Rattle.replay.specs.Record.{tableIn};
 ghost use Rattle.replay.specs.Calls.{stateAt, askCode, askBytes};
 ghost use Rattle.replay.specs.Offsets.{layoutOf};
 ghost use Rattle.replay.specs.Ready.{Ready};
-ghost use Rattle.events.specs.Moves.{numbersOf, movedState};
+ghost use Rattle.moves.specs.Moves.{numbersOf};
 ghost use Rattle.events.specs.Answers.{eventCode, askEvent, ObjectCode, Counted, Moving, Kinds};
+ghost use Rattle.events.specs.Moved.{movedState};
 
 // The answer to an event. `eventCode` gives document 01's number.
 pub enum EventAnswer {

@@ -1,6 +1,4 @@
-// An event and the close, carried out in place on a trail in lent bytes, or refused.
-// Above `net` and `replay`, whose definitions its contracts cite; it uses a table only through what loading promises.
+// An event, carried out in place on a trail in lent bytes, or refused.
+// Above `moves`, which moves an object, and `replay`, whose tests it uses and whose definitions its contracts cite.
 
-pub mod close;
 pub mod event;
-mod moves;

@@ -172,6 +172,6 @@ pub fn follow(rec: &mut [u8], t: &[u32; 1684], register: &[u8], body: usize)
         refuse(code, spot.accepted);
         return;
     }
-    events::close::close(rec, t);
+    closing::close(rec, t);
     print(rec, t);
 }

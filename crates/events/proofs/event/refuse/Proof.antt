@@ -8,7 +8,8 @@ use borrow.Author.Tests.{le-leb, lt-leb, ne-eqb}
 use Rattle.words.proofs.Lists.{not-eqb}
 use Rattle.net.specs.Held.{netIn}
 use Rattle.replay.specs.Calls.{stateAt}
-use Rattle.events.proofs.Asked.{words-few, closed-in, count-in, closed-read, events-read}
+use Rattle.moves.proofs.Layouts.{words-few, closed-in, closed-read}
+use Rattle.events.proofs.Asked.{count-in, events-read}
 use borrow.Author.Needs.{needs}
 use Rattle.events.proofs.event.refuse.Statement.{statement}
 use Rattle.events.proofs.event.refuse.Tie as tie

@@ -8,10 +8,12 @@ use Rattle.words.specs.Words.{wordsOf}
 use Rattle.net.specs.Held.{netIn}
 use Rattle.replay.specs.Record.{tableIn}
 use Rattle.replay.specs.Calls.{stateAt}
-use Rattle.events.specs.Moves.{movedState}
-use Rattle.events.proofs.Asked.{few-objects, object-in, kind-kept, own-kind-in, own-kind-taken, inp-in, out-in, own-in, placed-at}
-use Rattle.events.proofs.Walk.{sum-start, can-add-sum, can-move}
-use Rattle.events.proofs.Steps.{Stepping, walk-start, step-turn, step-end}
+use Rattle.events.specs.Moved.{movedState}
+use Rattle.events.proofs.Asked.{few-objects, object-in, kind-kept, own-kind-in, own-kind-taken, inp-in, out-in, own-in}
+use Rattle.moves.proofs.Begins.{walk-start}
+use Rattle.moves.proofs.Layouts.{placed-at}
+use Rattle.moves.proofs.Walk.{sum-start, can-add-sum, can-move}
+use Rattle.events.proofs.Steps.{Stepping, step-turn, step-end}
 use Rattle.events.proofs.event.step_objects.Statement.{statement}
 use Rattle.events.proofs.event.step_objects.Tie as tie
 

@@ -4,7 +4,7 @@ use mathlib.Core.List.{List}
 use Prim.Native.Nat.{ℕ, _+_, _*_}
 use native.Mathlib.Omega.{arith}
 use Rattle.replay.specs.State.{bump}
-use Rattle.events.proofs.Asked.{counts-few}
+use Rattle.moves.proofs.Layouts.{counts-few}
 use Rattle.events.proofs.Taken.{can-events, can-fired, event-counted}
 use borrow.Author.Needs.{needs}
 use Rattle.events.proofs.event.take_event.Statement.{statement}

@@ -1,0 +1,57 @@
+// The close of a trail in lent bytes: refused with 31, or carried out in place.
+// Above `moves`, which moves an object, and `replay`, whose definitions its contracts cite. The program and the C calls close by it.
+
+use moves::add;
+use moves::move_object;
+use replay::layout::Layout;
+use replay::layout::read_layout;
+ghost use mathlib.Core.Path.{_≡_};
+ghost use lib.ListN.{length};
+ghost use Rattle.words.specs.Lists.{upto};
+ghost use Rattle.words.specs.Words.{wordsOf};
+ghost use Rattle.net.specs.Held.{netIn};
+ghost use Rattle.replay.specs.Record.{tableIn};
+ghost use Rattle.replay.specs.Calls.{stateAt, askCode, askBytes};
+ghost use Rattle.replay.specs.Offsets.{layoutOf};
+ghost use Rattle.replay.specs.Ready.{Ready};
+ghost use Rattle.moves.specs.Moves.{numbersOf};
+ghost use Rattle.closing.specs.Answers.{closeCode, askClose};
+ghost use Rattle.closing.specs.Sunk.{sunkState};
+
+// The answer to a close. `closeCode` gives document 01's number.
+pub enum CloseAnswer {
+    Taken,
+    // 31: already closed.
+    AlreadyClosed,
+}
+
+// Every object jumps to its sink where it is not there, and is taken from it; the jumps are added once, behind the last object.
+fn sink_objects(rec: &mut [u8], t: &[u32; 1684], lay: Layout)
+    requires { ⌜ Ready (now t) (now rec) ⌝ }
+    requires { ⌜ lay ≡ layoutOf (netIn (now t)) (now rec) ⌝ }
+    ensures { λ _. ⌜ wordsOf (now (rec .exit)) ≡ numbersOf (tableIn (now (rec .entry))) (sunkState (netIn (now (t .entry))) (stateAt (now (rec .entry))) (upto (length (stateAt (now (rec .entry)) .kinds)) 0)) ⌝ }
+{
+    let mut o = 0;
+    let mut jumps = 0u32;
+    while o < lay.objects {
+        let k = words::get_word(rec, lay.register + o) as usize;
+        let sink = net::look::sink(t, k);
+        jumps += move_object(rec, lay, o, sink, sink as u32);
+        o += 1;
+    }
+    add(rec, lay.counts + 2, jumps);
+}
+
+// Closes a trail: it is closed already and nothing changes, or it is closed in the record's bytes.
+pub fn close(rec: &mut [u8], t: &[u32; 1684]) -> CloseAnswer
+    requires { ⌜ Ready (now t) (now rec) ⌝ }
+    ensures { λ r. ⌜ (closeCode r ≡ askCode (now (rec .entry)) askClose) × (now (rec .exit) ≡ askBytes (now (rec .entry)) askClose) ⌝ }
+{
+    let lay = read_layout(rec, t);
+    if words::get_word(rec, lay.counts) != 0 {
+        return CloseAnswer::AlreadyClosed;
+    }
+    sink_objects(rec, t, lay);
+    words::put_word(rec, lay.counts, 1);
+    CloseAnswer::Taken
+}

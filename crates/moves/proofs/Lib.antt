@@ -1,0 +1,4 @@
+pub mod Begins
+pub mod Calls
+pub mod Layouts
+pub mod Walk
