@@ -1,5 +1,5 @@
 // The events of a trail from standard input, read through a window and carried out one by one; then the close and the report.
-// Above `tracefile` and `events`; `conform` uses it once a trail is started.
+// Above `tracefile`, `events` and `closing`; `conform` uses it once a trail is started.
 
 use crate::input::refill;
 use printing::print;
