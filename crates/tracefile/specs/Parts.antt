@@ -7,7 +7,7 @@ use lib.Dec.{ltb, leb, eqb}
 use Rattle.words.specs.Refusals.{first}
 use Rattle.words.specs.Words.{word}
 use Rattle.net.specs.Net.{Net}
-use Rattle.replay.specs.Plain.{objectTests, registerTests}
+use Rattle.replay.specs.Plain.{objectTests}
 use Rattle.tracefile.specs.declared.Answer.{Answer}
 use Rattle.tracefile.specs.Answers.{unless}
 use Rattle.tracefile.specs.Trace.{objectsAt, eventFound, readFrom}
@@ -15,10 +15,6 @@ use Rattle.tracefile.specs.Trace.{objectsAt, eventFound, readFrom}
 -- the kinds of all objects are known
 pub record Known (N : Net) (ks : List ℕ) : Type 0 where
   pub kind : (o : ℕ) → o < length ks → getD ks o 0 < N .kinds
-
--- 71 and 11 by how many bytes the register claims and how many of them are there, then 11 and 12 on its kinds
-unfoldable pub openCode : Net → ℕ → ℕ → List ℕ → ℕ
-openCode N claimed there ks = first ((ltb there claimed, 71) ∷ (ltb 4096 claimed, 11) ∷ registerTests N ks)
 
 -- 23, 24, and the objects in body and file
 abbrev pub countTests : Net → List ℕ → ℕ → ℕ → List (Bool × ℕ)

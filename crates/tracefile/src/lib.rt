@@ -1,11 +1,12 @@
-// The trail file: opening it, and reading its events one by one.
-// Above `words`, `net` and `replay`; it uses a table only through what loading promises.
+// The cursor: it reads the events of a trail file one by one.
+// Above `opening`, which says where the events stand, `replay` and `net`; `following` uses it.
 
 use crate::objects::read_objects;
 use crate::objects::refuse_objects;
-use crate::open::read_contents;
 use net::look::acts;
 use net::look::arcs;
+use opening::Contents;
+use opening::read_contents;
 use words::wide;
 use words::word_at;
 ghost use mathlib.Core.Path.{_≡_};
@@ -19,14 +20,6 @@ ghost use Rattle.tracefile.specs.Parts.{Known, Ready, countTests, frontT
 ghost use Rattle.tracefile.specs.Trace.{endFound, readCode, readFrom, readAtCode, readAt};
 
 mod objects;
-pub mod open;
-
-// What the first 16 bytes of a trail file say of its bodies: their lengths in bytes. `contentsCode` gives document 01's number.
-pub enum Contents {
-    // 71
-    Broken,
-    Bodies { register: usize, events: usize },
-}
 
 // A position in the events body, in bytes from its start.
 pub struct Cursor {

@@ -4,8 +4,9 @@ use mathlib.Core.List.{List}
 use mathlib.Core.Path.{sym, _∙_}
 use native.Mathlib.Omega.{arith}
 use lib.ListN.{getD}
+use Rattle.opening.proofs.OpenLaws.{contents-bodies, head-there}
 use Rattle.tracefile.proofs.HandedLaws.{with-at-code}
-use Rattle.tracefile.proofs.OpenLaws.{word-small, contents-bodies, head-there, read-broken, read-whole}
+use Rattle.tracefile.proofs.ReadLaws.{word-small, read-broken, read-whole}
 use borrow.Author.Needs.{needs}
 use Rattle.tracefile.proofs.Cursor.read.Statement.{statement}
 use Rattle.tracefile.proofs.Cursor.read.Tie as tie

@@ -4,10 +4,10 @@ use mathlib.Core.Path.{_≡_}
 use native.Mathlib.Omega.{arith}
 use lib.Dec.{ltb}
 use borrow.Author.Tests.{lt-ltb, le-ltb}
-use Rattle.tracefile.specs.Parts.{openCode}
+use Rattle.opening.specs.Opening.{openCode}
 use borrow.Author.Needs.{needs}
-use Rattle.tracefile.proofs.open.opening_refusal.Statement.{statement}
-use Rattle.tracefile.proofs.open.opening_refusal.Tie as tie
+use Rattle.opening.proofs.opening_refusal.Statement.{statement}
+use Rattle.opening.proofs.opening_refusal.Tie as tie
 
 -- the tests passed
 whole : (c : tie.Else1) → ltb (c .before .before .args .there) (c .before .before .args .claimed) ≡ false

@@ -6,10 +6,10 @@ use lib.ListN.{length, take, drop}
 use borrow.Author.Tests.{lt-ltb}
 use Rattle.words.specs.Words.{wordsOf}
 use Rattle.net.specs.Held.{netIn}
-use Rattle.tracefile.specs.Parts.{openCode}
+use Rattle.opening.specs.Opening.{openCode}
 use borrow.Author.Needs.{needs}
-use Rattle.tracefile.proofs.open.held_refusal.Statement.{statement}
-use Rattle.tracefile.proofs.open.held_refusal.Tie as tie
+use Rattle.opening.proofs.held_refusal.Statement.{statement}
+use Rattle.opening.proofs.held_refusal.Tie as tie
 
 sub-rest : tie.Need-sub-rest
 sub-rest c = search needs
