@@ -3,6 +3,7 @@ pub mod Agree
 pub mod Encode
 pub mod Interleave
 pub mod Keep
+mod ObjectLaws
 mod PairLaws
 pub mod Permit
 pub mod RecordLaws

@@ -1,0 +1,84 @@
+// The tests 25 to 27 of an event's objects, which an event on a trail and an event in a trail file share.
+
+use crate::kinds::two_of_kind;
+use net::look::takes_kind;
+use words::get_word;
+use words::wide;
+ghost use mathlib.Core.Bool.{not};
+ghost use mathlib.Core.Path.{_≡_};
+ghost use Prim.Native.Nat.{_≤_, _<_};
+ghost use lib.ListN.{length, take};
+ghost use lib.Seq.{sets};
+ghost use Rattle.words.specs.Lists.{pick};
+ghost use Rattle.words.specs.Refusals.{first};
+ghost use Rattle.words.specs.Words.{wordsOf};
+ghost use Rattle.net.specs.Held.{netIn, Held};
+ghost use Rattle.net.specs.Net.{takes};
+ghost use Rattle.replay.specs.Plain.{kindsOf, objectTests};
+ghost use Rattle.replay.specs.Ready.{KnownKinds};
+
+// 26 where the activity does not take kind k, else the number found before.
+fn kind_code(t: &[u32; 1684], act: usize, k: usize, before: u32) -> u32
+    requires { ⌜ Held (now t) ⌝ }
+    requires { ⌜ (act < netIn (now t) .acts) × (k < netIn (now t) .kinds) ⌝ }
+    ensures { λ r. ⌜ r ≡ pick (not (takes (netIn (now (t .entry))) act k)) 26 before ⌝ }
+{
+    if !takes_kind(t, act, k) {
+        return 26;
+    }
+    before
+}
+
+// 25, 26 or 0, by the objects: 25 of any of them before 26 of any. Where it is 0, their kinds are put into `kinds`.
+fn take_kinds(
+    objs: &[u32],
+    act: usize,
+    register: &[u8],
+    t: &[u32; 1684],
+    kinds: &mut [u32; 8],
+) -> u32
+    requires { ⌜ Held (now t) ⌝ }
+    requires { ⌜ KnownKinds (netIn (now t)) (wordsOf (now register)) ⌝ }
+    requires { ⌜ (length (now objs) ≤ 8) × (act < netIn (now t) .acts) ⌝ }
+    ensures code { λ r. ⌜ r ≡ first (take 2 (objectTests (netIn (now (t .entry))) (wordsOf (now (register .entry))) act (now (objs .entry)))) ⌝ }
+    ensures kinds { λ r. ⌜ (r ≡ 0 → now (kinds .exit) ≡ sets (now (kinds .entry)) 0 (kindsOf (wordsOf (now (register .entry))) (now (objs .entry)))) ⌝ }
+{
+    let size = register.len() / 4;
+    let mut code = 0;
+    let mut i: usize = 0;
+    while i < objs.len() {
+        let o = wide(objs[i]);
+        if size <= o {
+            return 25;
+        }
+        let k = get_word(register, o);
+        kinds[i] = k;
+        code = kind_code(t, act, wide(k), code);
+        i += 1;
+    }
+    code
+}
+
+// 25, 26, 27 or 0, by an event's objects and the register. Where it is 0, `kinds` begins with the objects' kinds.
+pub fn refuse_objects(
+    objs: &[u32],
+    act: usize,
+    register: &[u8],
+    t: &[u32; 1684],
+    kinds: &mut [u32; 8],
+) -> u32
+    requires { ⌜ Held (now t) ⌝ }
+    requires { ⌜ KnownKinds (netIn (now t)) (wordsOf (now register)) ⌝ }
+    requires { ⌜ (length (now objs) ≤ 8) × (act < netIn (now t) .acts) × (length (now kinds) ≡ 8) ⌝ }
+    ensures code { λ r. ⌜ r ≡ first (objectTests (netIn (now (t .entry))) (wordsOf (now (register .entry))) act (now (objs .entry))) ⌝ }
+    ensures kinds { λ r. ⌜ (r ≡ 0 → take (length (now (objs .entry))) (now (kinds .exit)) ≡ kindsOf (wordsOf (now (register .entry))) (now (objs .entry))) ⌝ }
+{
+    let code = take_kinds(objs, act, register, t, kinds);
+    if code != 0 {
+        return code;
+    }
+    if two_of_kind(kinds, objs.len()) {
+        return 27;
+    }
+    0
+}
