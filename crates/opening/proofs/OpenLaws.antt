@@ -1,21 +1,22 @@
 -- Opening a trail file: what the contents say, what of the file opening needs, and which number it gives. Assumes nothing.
-use Prim.Native.Nat.{ℕ, _+_, _-_, _/_, _%_, _≤_}
+use Prim.Native.Nat.{ℕ, _+_, _-_, _/_, _%_, _≤_, _<_}
 use mathlib.Core.Bool.{Bool, true, false}
 use mathlib.Core.Path.{_≡_, refl, ap, sym, _∙_}
 use mathlib.Core.List.{List, [], _∷_}
 use native.Mathlib.Decide.{ℕ-discrete}
 use native.Mathlib.Omega.{arith}
-use lib.Dec.{ltb}
+use lib.Dec.{ltb, leb}
 use lib.ListN.{length, take, drop, length-take, length-drop}
-use borrow.Author.Tests.{ltb-true, ltb-false, lt-ltb, eq-eqb, ne-eqb}
+use borrow.Author.Tests.{ltb-true, ltb-false, leb-false, lt-ltb, eq-eqb, ne-eqb}
 use Rattle.words.specs.Lists.{pick, All}
 use Rattle.words.specs.Refusals.{first}
 use Rattle.words.specs.Words.{word, wordsOf}
-use Rattle.words.proofs.Lists.{is-eq}
+use Rattle.words.proofs.Lists.{All-at, any-none, is-eq}
 use Rattle.words.proofs.Refusals.{first-none, none-apply, first-then, first-stays}
 use Rattle.words.proofs.Words.{length-words}
 use Rattle.net.specs.Net.{Net}
 use Rattle.replay.specs.Plain.{registerTests, registerCode}
+use Rattle.replay.specs.Ready.{KnownKinds}
 use Rattle.opening.specs.declared.Contents.{Contents}
 use Rattle.opening.specs.declared.Contents.the-variants.{Broken, Bodies}
 use Rattle.opening.specs.Claims.{HeadEnough, OpenEnough}
@@ -127,3 +128,14 @@ unfolding openCode
 not-refused N claimed there ks z =
     let a = first-none (ltb there claimed) 71 (pick (ltb 4096 claimed) 11 (registerCode N ks)) (omega arith) z in
     (ltb-false there claimed (a .0), first-none (ltb 4096 claimed) 11 (registerCode N ks) (omega arith) (a .1) .1)
+
+-- a register that is taken has only known kinds, so that the events of a file that is opened can be read
+pub register-known : (N : Net) (ks : List ℕ) → registerCode N ks ≡ 0 → KnownKinds N ks
+register-known N ks e =
+    let t = none-apply (registerTests N ks) (omega arith) e in
+    record {
+      kind = λ o h. All-at (λ (k : ℕ). k < N .kinds) 0 ks (any-none (λ (k : ℕ). leb (N .kinds) k) (λ (k : ℕ). k < N .kinds) (λ k q. leb-false (N .kinds) k q) ks (t .1 .1 .0)) o h;
+    }
+
+pub opened-known : (N : Net) (claimed there : ℕ) (ks : List ℕ) → openCode N claimed there ks ≡ 0 → KnownKinds N ks
+opened-known N claimed there ks e = register-known N ks (not-refused N claimed there ks e .1)

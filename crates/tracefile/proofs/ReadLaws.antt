@@ -4,23 +4,24 @@ use mathlib.Core.Bool.{Bool}
 use mathlib.Core.Path.{_≡_, sym, _∙_}
 use mathlib.Core.List.{List, [], _∷_, _++_}
 use native.Mathlib.Omega.{arith}
-use lib.Dec.{ltb, leb}
-use lib.ListN.{length, getD}
+use lib.Dec.{ltb}
+use lib.ListN.{length, getD, replicate}
+use lib.Seq.{sets}
 use borrow.Author.Tests.{ltb-false, leb-false, eq-eqb, ne-eqb}
 use Rattle.words.specs.Refusals.{first}
 use Rattle.words.specs.Words.{word}
-use Rattle.words.proofs.Lists.{All-at, any-none, is-eq}
+use Rattle.words.proofs.Lists.{is-eq}
 use Rattle.words.proofs.Refusals.{none-apply, first-then, first-stays}
 use Rattle.net.specs.Net.{Net, Loaded}
-use Rattle.replay.specs.Plain.{objectTests, registerTests, registerCode}
+use Rattle.replay.specs.Plain.{objectTests}
 use Rattle.opening.specs.declared.Contents.the-variants.{Broken, Bodies}
-use Rattle.opening.specs.Opening.{contentsTests, contentsOf, shapeTests, openCode}
-use Rattle.opening.proofs.OpenLaws.{contents-broken, contents-bodies, not-refused}
+use Rattle.opening.specs.Opening.{contentsTests, contentsOf, shapeTests}
+use Rattle.opening.proofs.OpenLaws.{contents-broken, contents-bodies}
 use Rattle.tracefile.specs.declared.Answer.{Answer}
 use Rattle.tracefile.specs.declared.Found.the-variants as found
 use Rattle.tracefile.specs.Answers.{nothing, unless}
-use Rattle.tracefile.specs.Parts.{Known, Ready, frontTests, objectsFound, bodyRead}
-use Rattle.tracefile.specs.Trace.{objectsAt, endFound, readTests, readFrom, readAt}
+use Rattle.tracefile.specs.Parts.{Ready, frontTests, objectsFound, bodyRead}
+use Rattle.tracefile.specs.Trace.{objectsAt, endFound, eventFound, readTests, readFrom, readAt}
 use Rattle.tracefile.proofs.ObjectLaws.{length-objects}
 
 -- the answer where the number is 0, and the refusal where it is not
@@ -29,6 +30,11 @@ unless-taken c a at e = rw (eq-eqb c 0 e)
 
 pub refused-is : (c d : ℕ) (a : Answer) (at : ℕ) → c ≡ d → (c ≡ 0 → ⊥) → nothing (found.Refused c) at ≡ unless d a at
 refused-is c d a at e n = rw (← e, ne-eqb c 0 n)
+
+-- the event at the front of the window, by its parts
+pub event-is : (w : List ℕ) (at : ℕ) {a n next : ℕ} {os : List ℕ} → a ≡ word w 0 → n ≡ word w 4 → os ≡ sets (replicate 8 0) 0 (objectsAt w 8 (word w 4)) → next ≡ at + 8 + 4 * word w 4
+    → record { found = found.Event; event = record { activity = a; count = n; objects = os }; next = record { at = next } } ≡ eventFound w 0 at
+event-is w at a n o e = rw (a, n, o, e)
 
 -- the tests of a read through a window
 pub window-tests : (N : Net) (ks : List ℕ) (accepted : ℕ) (w : List ℕ) (body at : ℕ)
@@ -89,14 +95,3 @@ module _ (f : List ℕ) (N : Net) (ks : List ℕ) (accepted at : ℕ) where
       let q = contents-bodies f r e p in
       let z : first (shapeTests f) ≡ first ((ltb (length f) (16 + word f 4), 71) ∷ []) = first-then (contentsTests f) ((ltb (length f) (16 + word f 4), 71) ∷ []) (q .0) (omega arith) in
       rw (z, q .1, q .2)
-
--- a register that is taken has only known kinds, so that the events of a file that is opened can be read
-pub register-known : (N : Net) (ks : List ℕ) → registerCode N ks ≡ 0 → Known N ks
-register-known N ks e =
-    let t = none-apply (registerTests N ks) (omega arith) e in
-    record {
-      kind = λ o h. All-at (λ (k : ℕ). k < N .kinds) 0 ks (any-none (λ (k : ℕ). leb (N .kinds) k) (λ (k : ℕ). k < N .kinds) (λ k q. leb-false (N .kinds) k q) ks (t .1 .1 .0)) o h;
-    }
-
-pub opened-known : (N : Net) (claimed there : ℕ) (ks : List ℕ) → openCode N claimed there ks ≡ 0 → Known N ks
-opened-known N claimed there ks e = register-known N ks (not-refused N claimed there ks e .1)

@@ -2,7 +2,7 @@
 use Prim.Native.Nat.{ℕ, _+_, _*_, _≤_, _<_}
 use mathlib.Core.Bool.{Bool, not}
 use mathlib.Core.List.{List, [], _∷_}
-use lib.ListN.{length, getD, take}
+use lib.ListN.{length}
 use lib.Dec.{ltb, leb, eqb}
 use Rattle.words.specs.Refusals.{first}
 use Rattle.words.specs.Words.{word}
@@ -11,10 +11,6 @@ use Rattle.replay.specs.Plain.{objectTests}
 use Rattle.tracefile.specs.declared.Answer.{Answer}
 use Rattle.tracefile.specs.Answers.{unless}
 use Rattle.tracefile.specs.Trace.{objectsAt, eventFound, readFrom}
-
--- the kinds of all objects are known
-pub record Known (N : Net) (ks : List ℕ) : Type 0 where
-  pub kind : (o : ℕ) → o < length ks → getD ks o 0 < N .kinds
 
 -- 23, 24, and the objects in body and file
 abbrev pub countTests : Net → List ℕ → ℕ → ℕ → List (Bool × ℕ)
@@ -33,10 +29,6 @@ frontTests N accepted w body at =
     ∷ (ltb (length w) 8, 73)
     ∷ (leb 1000000 accepted, 22)
     ∷ countTests N w body at
-
--- 25, 26
-abbrev pub kindTests : Net → List ℕ → ℕ → List ℕ → List (Bool × ℕ)
-kindTests N ks a os = take 2 (objectTests N ks a os)
 
 -- an event in the window w whose numbers are all there, of a known activity, with as many objects as it has arcs
 pub record Ready (N : Net) (w : List ℕ) (at : ℕ) : Type 0 where
