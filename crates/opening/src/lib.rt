@@ -1,5 +1,5 @@
 // Opening a trail file: what its contents say, 71, then 11 and 12 of its register.
-// Above `words`, `net` and `replay`; `tracefile` reads the events behind the register, `conform` opens what it is given.
+// Above `words`, `net` and `replay`; `tracefile` reads the events behind the register, `conform` opens the trail that it is given.
 
 use replay::register::register_refusal;
 use words::wide;
