@@ -4,12 +4,10 @@ use mathlib.Core.Path.{_≡_, ap, sym, subst, _∙_}
 use mathlib.Core.List.{List}
 use native.Mathlib.Omega.{arith}
 use lib.ListN.{length, take}
-use lib.Dec.{ltb}
-use borrow.Author.Tests.{ltb-false, eq-eqb}
-use Rattle.words.specs.Lists.{pick}
+use borrow.Author.Tests.{eq-eqb}
 use Rattle.words.specs.Words.{word, wordsOf}
 use Rattle.words.proofs.Lists.{is-eq}
-use Rattle.words.proofs.Refusals.{first-none, none-apply}
+use Rattle.words.proofs.Refusals.{none-apply}
 use Rattle.net.specs.Net.{Net}
 use Rattle.net.specs.Table.{netOf, loadCode}
 use Rattle.net.specs.Held.{netIn, afterLoad}
@@ -19,10 +17,9 @@ use Rattle.replay.specs.State.{State}
 use Rattle.replay.specs.Calls.{startRecord, startCode, startBytes}
 use Rattle.starting.specs.Startable.{Startable}
 use Rattle.starting.proofs.Begun.{ready-start, state-start, start-front}
-use Rattle.tracefile.specs.declared.Contents.the-variants.{Bodies}
-use Rattle.tracefile.specs.Parts.{openCode}
-use Rattle.tracefile.specs.Trace.{contentsTests, contentsOf}
-use Rattle.tracefile.proofs.OpenLaws.{contents-bodies}
+use Rattle.opening.specs.declared.Contents.the-variants.{Bodies}
+use Rattle.opening.specs.Opening.{contentsTests, contentsOf, openCode}
+use Rattle.opening.proofs.OpenLaws.{contents-bodies, not-refused}
 use Rattle.following.specs.Follows.{Follows}
 use Rattle.conform.specs.Tabled.{Tabled}
 
@@ -38,13 +35,7 @@ whole-rows f r e p =
     let q = contents-bodies f r e p in
     ap (λ (n : ℕ). n % 4) (q .1) ∙ is-eq (word f 4 % 4) 0 (none-apply (contentsTests f) (omega arith) (q .0) .1 .1 .1 .0)
 
--- a register that is not refused is wholly there
-pub not-refused : (N : Net) (claimed there : ℕ) (ks : List ℕ) → openCode N claimed there ks ≡ 0 → (claimed ≤ there) × (registerCode N ks ≡ 0)
-unfolding openCode
-not-refused N claimed there ks z =
-    let a = first-none (ltb there claimed) 71 (pick (ltb 4096 claimed) 11 (registerCode N ks)) (omega arith) z in
-    (ltb-false there claimed (a .0), first-none (ltb 4096 claimed) 11 (registerCode N ks) (omega arith) (a .1) .1)
-
+-- a register that is not refused
 pub register-startable : (t table register : List ℕ) (claimed there : ℕ) → Tabled t table → claimed % 4 ≡ 0 → length register ≡ there → there ≤ claimed → openCode (netIn t) claimed there (wordsOf register) ≡ 0
     → Startable t table register × (registerCode (netOf table) (wordsOf register) ≡ 0)
 register-startable t table register claimed there T m n h z =

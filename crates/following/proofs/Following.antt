@@ -16,13 +16,13 @@ use Rattle.net.specs.Held.{netIn}
 use Rattle.replay.specs.Plain.{Event, event, refusal}
 use Rattle.replay.specs.State.{State, acceptS}
 use Rattle.replay.specs.Calls.{stateAt, askCode, askBytes}
+use Rattle.replay.specs.Ready.{KnownKinds}
 use Rattle.replay.proofs.Accepted.{accepted}
 use Rattle.replay.proofs.RecordLaws.{ready-loaded, ready-sound}
 use Rattle.moves.proofs.Calls.{code-is, ready-asked, state-taken}
 use Rattle.tracefile.specs.declared.Answer.{Answer}
 use Rattle.tracefile.specs.declared.Found.the-variants as found
 use Rattle.tracefile.specs.Claims.{Handed}
-use Rattle.tracefile.specs.Parts.{Known}
 use Rattle.tracefile.specs.Answers.{nothing, unless}
 use Rattle.tracefile.specs.Trace.{objectsAt, endTests, endFound, eventFound, readTests, readFrom}
 use Rattle.tracefile.proofs.HandedLaws.{handed}
@@ -31,7 +31,7 @@ use Rattle.following.specs.declared.Spot.{Spot}
 use Rattle.following.specs.declared.Outcome.{Outcome}
 
 module _ (t rec register : List ℕ) (n : ℕ) (F : Follows t rec register n) where
-  pub kinds-known : Known (netIn t) (wordsOf register)
+  pub kinds-known : KnownKinds (netIn t) (wordsOf register)
   kinds-known = record {
     kind = λ o h. All-at (λ (k : ℕ). k < netIn t .kinds) 0 (wordsOf register)
         (subst (All (λ (k : ℕ). k < netIn t .kinds)) (F .kinds) (ready-sound t rec (F .ready) .kinds)) o h;

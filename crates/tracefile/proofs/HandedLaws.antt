@@ -12,11 +12,12 @@ use Rattle.words.proofs.Lists.{is-eq}
 use Rattle.words.proofs.Refusals.{none-apply, first-zero}
 use Rattle.net.specs.Net.{Net, Loaded}
 use Rattle.replay.specs.Plain as plain
+use Rattle.opening.specs.Opening.{shapeTests}
 use Rattle.tracefile.specs.declared.Answer.{Answer}
 use Rattle.tracefile.specs.declared.Found.the-variants as found
 use Rattle.tracefile.specs.Answers.{codeOf, nothing, unless}
 use Rattle.tracefile.specs.Claims.{Handed, HandedOut}
-use Rattle.tracefile.specs.Trace.{shapeTests, objectsAt, eventAt, endTests, readTests, eventFound, readCode, readFrom, readAtCode, readAt}
+use Rattle.tracefile.specs.Trace.{objectsAt, eventAt, endTests, readTests, eventFound, readCode, readFrom, readAtCode, readAt}
 use Rattle.tracefile.proofs.ObjectLaws.{length-objects, first-of-eight}
 
 unless-event : (c : ℕ) (a : Answer) (at : ℕ) → unless c a at .found ≡ found.Event → (c ≡ 0) × (unless c a at ≡ a)

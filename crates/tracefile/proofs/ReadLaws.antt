@@ -2,21 +2,26 @@
 use Prim.Native.Nat.{ℕ, _+_, _*_, _≤_, _<_}
 use mathlib.Core.Bool.{Bool}
 use mathlib.Core.Path.{_≡_, sym, _∙_}
-use mathlib.Core.List.{List, _++_}
+use mathlib.Core.List.{List, [], _∷_, _++_}
 use native.Mathlib.Omega.{arith}
-use lib.ListN.{length}
+use lib.Dec.{ltb}
+use lib.ListN.{length, getD, replicate}
+use lib.Seq.{sets}
 use borrow.Author.Tests.{ltb-false, leb-false, eq-eqb, ne-eqb}
 use Rattle.words.specs.Refusals.{first}
 use Rattle.words.specs.Words.{word}
 use Rattle.words.proofs.Lists.{is-eq}
 use Rattle.words.proofs.Refusals.{none-apply, first-then, first-stays}
 use Rattle.net.specs.Net.{Net, Loaded}
+use Rattle.replay.specs.Plain.{objectTests}
+use Rattle.opening.specs.declared.Contents.the-variants.{Broken, Bodies}
+use Rattle.opening.specs.Opening.{contentsTests, contentsOf, shapeTests}
+use Rattle.opening.proofs.OpenLaws.{contents-broken, contents-bodies}
 use Rattle.tracefile.specs.declared.Answer.{Answer}
 use Rattle.tracefile.specs.declared.Found.the-variants as found
 use Rattle.tracefile.specs.Answers.{nothing, unless}
-use Rattle.replay.specs.Plain.{objectTests}
-use Rattle.tracefile.specs.Parts.{Ready, frontTests, objectsFound}
-use Rattle.tracefile.specs.Trace.{objectsAt, endFound, readTests, readFrom}
+use Rattle.tracefile.specs.Parts.{Ready, frontTests, objectsFound, bodyRead}
+use Rattle.tracefile.specs.Trace.{objectsAt, endFound, eventFound, readTests, readFrom, readAt}
 use Rattle.tracefile.proofs.ObjectLaws.{length-objects}
 
 -- the answer where the number is 0, and the refusal where it is not
@@ -25,6 +30,11 @@ unless-taken c a at e = rw (eq-eqb c 0 e)
 
 pub refused-is : (c d : ℕ) (a : Answer) (at : ℕ) → c ≡ d → (c ≡ 0 → ⊥) → nothing (found.Refused c) at ≡ unless d a at
 refused-is c d a at e n = rw (← e, ne-eqb c 0 n)
+
+-- the event at the front of the window, by its parts
+pub event-is : (w : List ℕ) (at : ℕ) {a n next : ℕ} {os : List ℕ} → a ≡ word w 0 → n ≡ word w 4 → os ≡ sets (replicate 8 0) 0 (objectsAt w 8 (word w 4)) → next ≡ at + 8 + 4 * word w 4
+    → record { found = found.Event; event = record { activity = a; count = n; objects = os }; next = record { at = next } } ≡ eventFound w 0 at
+event-is w at a n o e = rw (a, n, o, e)
 
 -- the tests of a read through a window
 pub window-tests : (N : Net) (ks : List ℕ) (accepted : ℕ) (w : List ℕ) (body at : ℕ)
@@ -64,3 +74,24 @@ module _ (N : Net) (ks : List ℕ) (accepted : ℕ) (w : List ℕ) (body at : �
       let t : first (readTests N ks accepted w 0 body at) ≡ first objs =
       window-tests N ks accepted w body at ∙ first-then (frontTests N accepted w body at) objs e (omega arith) in
       rw (ne-eqb at body m, t)
+
+-- a number in four bytes
+pub word-small : (b : List ℕ) → ((i : ℕ) → getD b i 0 < 256) → (i : ℕ) → word b i < 4294967296
+unfolding word
+word-small b h i = omega (arith, h i, h (i + 1), h (i + 2), h (i + 3))
+
+-- reading in a file by what its contents say
+module _ (f : List ℕ) (N : Net) (ks : List ℕ) (accepted at : ℕ) where
+  pub read-broken : contentsOf f ≡ Broken → nothing (found.Refused 71) at ≡ readAt N ks accepted f at
+  unfolding readAt
+  read-broken e =
+      let c : first (contentsTests f) ≡ 71 = contents-broken f e in
+      let z : first (shapeTests f) ≡ 71 = first-stays (contentsTests f) ((ltb (length f) (16 + word f 4), 71) ∷ []) (λ q. omega arith) ∙ c in
+      rw z
+
+  pub read-whole : (r e : ℕ) → contentsOf f ≡ Bodies r e → bodyRead N ks accepted f r e at ≡ readAt N ks accepted f at
+  unfolding readAt bodyRead
+  read-whole r e p =
+      let q = contents-bodies f r e p in
+      let z : first (shapeTests f) ≡ first ((ltb (length f) (16 + word f 4), 71) ∷ []) = first-then (contentsTests f) ((ltb (length f) (16 + word f 4), 71) ∷ []) (q .0) (omega arith) in
+      rw (z, q .1, q .2)

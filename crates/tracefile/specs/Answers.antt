@@ -5,8 +5,6 @@ use lib.Dec.{eqb}
 use Rattle.words.specs.Lists.{pick}
 use Rattle.replay.specs.Plain as plain
 use Rattle.tracefile.specs.declared.Answer.{Answer}
-use Rattle.tracefile.specs.declared.Contents.{Contents}
-use Rattle.tracefile.specs.declared.Contents.the-variants as contents
 use Rattle.tracefile.specs.declared.Event.{Event}
 use Rattle.tracefile.specs.declared.Found.{Found}
 use Rattle.tracefile.specs.declared.Found.the-variants as found
@@ -16,11 +14,6 @@ abbrev pub codeOf : Found → ℕ
 codeOf found.Event = 0
 codeOf found.End = 0
 codeOf (found.Refused c) = c
-
--- 71 for broken contents
-abbrev pub contentsCode : Contents → ℕ
-contentsCode contents.Broken = 71
-contentsCode (contents.Bodies register events) = 0
 
 -- the event that an answer holds: its activity, and the first `count` of the eight numbers
 abbrev pub eventIn : Event → plain.Event

@@ -1,19 +1,15 @@
 -- What is claimed of a read: an event handed out is one that a replay accepts, and 40 bytes at the position are enough.
--- What is claimed of opening: how much of the file it needs.
 use Prim.Native.Nat.{ℕ, _+_, _*_, _≤_}
 use mathlib.Core.Path.{_≡_}
 use mathlib.Core.List.{List}
-use lib.Dec.{ltb}
 use lib.ListN.{length, take, drop}
-use Rattle.words.specs.Refusals.{first}
 use Rattle.words.specs.Words.{word}
 use Rattle.net.specs.Net.{Net}
 use Rattle.replay.specs.Plain.{refusal}
 use Rattle.tracefile.specs.declared.Answer.{Answer}
 use Rattle.tracefile.specs.declared.Found.the-variants as found
 use Rattle.tracefile.specs.Answers.{eventIn}
-use Rattle.tracefile.specs.Parts.{openCode}
-use Rattle.tracefile.specs.Trace.{contentsTests, contentsOf, registerOf, traceCode, readFrom, readAt}
+use Rattle.tracefile.specs.Trace.{readFrom, readAt}
 
 -- What holds of an answer with an event, read at byte `from` of `size` bytes: none of 21 to 27 applies to it on an open
 -- trail, the next position is behind it and inside the body, and its bytes are there.
@@ -33,14 +29,3 @@ HandedOut N = (ks : List ℕ) (accepted : ℕ) (f : List ℕ) (at : ℕ) → rea
 abbrev pub WindowEnough : Net → Type 0
 WindowEnough N = (ks : List ℕ) (accepted : ℕ) (w b : List ℕ) (from : ℕ) → take 40 w ≡ take 40 (drop from b) → (body at : ℕ)
     → readFrom N ks accepted w 0 body at ≡ readFrom N ks accepted b from body at
-
--- the contents: the first 16 bytes say all
-abbrev pub HeadEnough : Type 0
-HeadEnough = (h f : List ℕ) → take 16 h ≡ take 16 f → contentsOf h ≡ contentsOf f
-
--- opening: beside the contents, whether all bytes of the register are there, and its kinds where they are and are at most 1,024
-abbrev pub OpenEnough : Net → Type 0
-OpenEnough N = (f : List ℕ) (there : ℕ) (ks : List ℕ) → first (contentsTests f) ≡ 0
-    → ltb there (word f 4) ≡ ltb (length f) (16 + word f 4)
-    → (word f 4 ≤ there → word f 4 ≤ 4096 → ks ≡ registerOf f)
-    → openCode N (word f 4) there ks ≡ traceCode N f

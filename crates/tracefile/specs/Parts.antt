@@ -2,23 +2,15 @@
 use Prim.Native.Nat.{ℕ, _+_, _*_, _≤_, _<_}
 use mathlib.Core.Bool.{Bool, not}
 use mathlib.Core.List.{List, [], _∷_}
-use lib.ListN.{length, getD, take}
+use lib.ListN.{length}
 use lib.Dec.{ltb, leb, eqb}
 use Rattle.words.specs.Refusals.{first}
 use Rattle.words.specs.Words.{word}
 use Rattle.net.specs.Net.{Net}
-use Rattle.replay.specs.Plain.{objectTests, registerTests}
+use Rattle.replay.specs.Plain.{objectTests}
 use Rattle.tracefile.specs.declared.Answer.{Answer}
 use Rattle.tracefile.specs.Answers.{unless}
 use Rattle.tracefile.specs.Trace.{objectsAt, eventFound, readFrom}
-
--- the kinds of all objects are known
-pub record Known (N : Net) (ks : List ℕ) : Type 0 where
-  pub kind : (o : ℕ) → o < length ks → getD ks o 0 < N .kinds
-
--- 71 and 11 by how many bytes the register claims and how many of them are there, then 11 and 12 on its kinds
-unfoldable pub openCode : Net → ℕ → ℕ → List ℕ → ℕ
-openCode N claimed there ks = first ((ltb there claimed, 71) ∷ (ltb 4096 claimed, 11) ∷ registerTests N ks)
 
 -- 23, 24, and the objects in body and file
 abbrev pub countTests : Net → List ℕ → ℕ → ℕ → List (Bool × ℕ)
@@ -37,10 +29,6 @@ frontTests N accepted w body at =
     ∷ (ltb (length w) 8, 73)
     ∷ (leb 1000000 accepted, 22)
     ∷ countTests N w body at
-
--- 25, 26
-abbrev pub kindTests : Net → List ℕ → ℕ → List ℕ → List (Bool × ℕ)
-kindTests N ks a os = take 2 (objectTests N ks a os)
 
 -- an event in the window w whose numbers are all there, of a known activity, with as many objects as it has arcs
 pub record Ready (N : Net) (w : List ℕ) (at : ℕ) : Type 0 where

@@ -1,11 +1,12 @@
-// The trail file: opening it, and reading its events one by one.
-// Above `words`, `net` and `replay`; it uses a table only through what loading promises.
+// The cursor: it reads the events of a trail file one by one.
+// Above `opening`, which says where the events stand, `replay` and `net`; `following` uses it.
 
 use crate::objects::read_objects;
-use crate::objects::refuse_objects;
-use crate::open::read_contents;
 use net::look::acts;
 use net::look::arcs;
+use opening::Contents;
+use opening::read_contents;
+use replay::objects::refuse_objects;
 use words::wide;
 use words::word_at;
 ghost use mathlib.Core.Path.{_≡_};
@@ -14,19 +15,12 @@ ghost use lib.ListN.{length, take, drop};
 ghost use Rattle.words.specs.Refusals.{first};
 ghost use Rattle.words.specs.Words.{wordsOf};
 ghost use Rattle.net.specs.Held.{netIn, Held};
+ghost use Rattle.replay.specs.Ready.{KnownKinds};
 ghost use Rattle.tracefile.specs.Answers as answers;
-ghost use Rattle.tracefile.specs.Parts.{Known, Ready, countTests, frontTests, objectsFound, bodyRead};
+ghost use Rattle.tracefile.specs.Parts.{Ready, countTests, frontTests, objectsFound, bodyRead};
 ghost use Rattle.tracefile.specs.Trace.{endFound, readCode, readFrom, readAtCode, readAt};
 
 mod objects;
-pub mod open;
-
-// What the first 16 bytes of a trail file say of its bodies: their lengths in bytes. `contentsCode` gives document 01's number.
-pub enum Contents {
-    // 71
-    Broken,
-    Bodies { register: usize, events: usize },
-}
 
 // A position in the events body, in bytes from its start.
 pub struct Cursor {
@@ -127,18 +121,19 @@ fn refuse_front(window: &[u8], body: usize, at: usize, accepted: u32, t: &[u32; 
 // The event at the front of the window, or 25, 26 or 27.
 fn read_event(window: &[u8], at: usize, register: &[u8], t: &[u32; 1684]) -> Answer
     requires { ⌜ Held (now t) ⌝ }
-    requires { ⌜ Known (netIn (now t)) (wordsOf (now register)) ⌝ }
+    requires { ⌜ KnownKinds (netIn (now t)) (wordsOf (now register)) ⌝ }
     requires { ⌜ Ready (netIn (now t)) (now window) at ⌝ }
     ensures { λ r. ⌜ r ≡ objectsFound (netIn (now (t .entry))) (wordsOf (now (register .entry))) (now (window .entry)) at ⌝ }
 {
     let activity = word_at(window, 0);
     let count = word_at(window, 4);
     let n = wide(count);
-    let code = refuse_objects(window, n, wide(activity), register, t);
+    let objects = read_objects(window, n);
+    let mut kinds = [0u32; 8];
+    let code = refuse_objects(&objects[..n], wide(activity), register, t, &mut kinds);
     if code != 0 {
         return nothing(Found::Refused(code), at);
     }
-    let objects = read_objects(window, n);
     Answer {
         found: Found::Event,
         event: Event {
@@ -177,7 +172,7 @@ impl Cursor {
         t: &[u32; 1684],
     ) -> Answer
         requires { ⌜ Held (now t) ⌝ }
-        requires { ⌜ Known (netIn (now t)) (wordsOf (now register)) ⌝ }
+        requires { ⌜ KnownKinds (netIn (now t)) (wordsOf (now register)) ⌝ }
         ensures answer { λ r. ⌜ r ≡ readFrom (netIn (now (t .entry))) (wordsOf (now (register .entry))) accepted (now (window .entry)) 0 body (self .at) ⌝ }
         ensures code { λ r. ⌜ answers.codeOf (r .found) ≡ readCode (netIn (now (t .entry))) (wordsOf (now (register .entry))) accepted (now (window .entry)) 0 body (self .at) ⌝ }
     {
@@ -203,7 +198,7 @@ impl Cursor {
         t: &[u32; 1684],
     ) -> Answer
         requires { ⌜ Held (now t) ⌝ }
-        requires { ⌜ Known (netIn (now t)) (wordsOf (now register)) ⌝ }
+        requires { ⌜ KnownKinds (netIn (now t)) (wordsOf (now register)) ⌝ }
         requires { ⌜ (16 ≤ length (now file)) × (claimed + body ≤ 8589934592) ⌝ }
         ensures { λ r. ⌜ r ≡ bodyRead (netIn (now (t .entry))) (wordsOf (now (register .entry))) accepted (now (file .entry)) claimed body (self .at) ⌝ }
     {
@@ -226,7 +221,7 @@ impl Cursor {
     // Reads in a file that is held whole.
     pub fn read(self, file: &[u8], accepted: u32, register: &[u8], t: &[u32; 1684]) -> Answer
         requires { ⌜ Held (now t) ⌝ }
-        requires { ⌜ Known (netIn (now t)) (wordsOf (now register)) ⌝ }
+        requires { ⌜ KnownKinds (netIn (now t)) (wordsOf (now register)) ⌝ }
         ensures answer { λ r. ⌜ r ≡ readAt (netIn (now (t .entry))) (wordsOf (now (register .entry))) accepted (now (file .entry)) (self .at) ⌝ }
         ensures code { λ r. ⌜ answers.codeOf (r .found) ≡ readAtCode (netIn (now (t .entry))) (wordsOf (now (register .entry))) accepted (now (file .entry)) (self .at) ⌝ }
     {

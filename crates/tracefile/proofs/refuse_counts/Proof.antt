@@ -1,7 +1,7 @@
 -- Each return by the tests passed on the way. Assumes nothing.
 use Prim.Native.Nat.{ℕ, _+_, _*_}
 use mathlib.Core.Bool.{true, false}
-use mathlib.Core.Path.{_≡_, ap, sym, _∙_}
+use mathlib.Core.Path.{_≡_, refl, ap, sym, _∙_}
 use native.Mathlib.Omega.{arith}
 use lib.Dec.{ltb, leb, eqb}
 use lib.ListN.{length}
@@ -47,7 +47,7 @@ acts-requires : tie.Need-acts-requires
 acts-requires c κs = search needs
 
 returns : tie.Need-returns
-returns c = let a = c .before .before .before .before .before .args in rw (le-leb (netIn (a .t .now) .acts) (word (a .window .now) 0) (omega arith))
+returns c = let a = c .before .before .before .before .before .args in rw (le-leb (netIn (a .t .now) .acts) (word (a .window .now) 0) (omega arith)) refl
 
 word-at-requires-2 : tie.Need-word-at-requires-2
 word-at-requires-2 c κs = search needs
@@ -59,7 +59,7 @@ arcs-requires : tie.Need-arcs-requires
 arcs-requires c κs = search needs
 
 returns-2 : tie.Need-returns-2
-returns-2 c = rw (act-known (c .before .before .before .before), ne-eqb _ _ (λ e. c .if2 .taken (counts (c .before) e)))
+returns-2 c = rw (act-known (c .before .before .before .before), ne-eqb _ _ (λ e. c .if2 .taken (counts (c .before) e))) refl
 
 sub-if3 : tie.Need-sub-if3
 sub-if3 c = search needs
@@ -72,7 +72,7 @@ add-if3 c = search needs
 
 returns-3 : tie.Need-returns-3
 returns-3 c = let a = c .before .before .before .before .before .before .before .before .before .before .args in
-    rw (act-known (c .before .before .before .before .before), count-right (c .before), lt-ltb (a .body) (a .at + 8 + 4 * word (a .window .now) 4) (omega arith))
+    rw (act-known (c .before .before .before .before .before), count-right (c .before), lt-ltb (a .body) (a .at + 8 + 4 * word (a .window .now) 4) (omega arith)) refl
 
 mul-if4 : tie.Need-mul-if4
 mul-if4 c = search needs
@@ -82,11 +82,11 @@ add-if4 c = search needs
 
 returns-4 : tie.Need-returns-4
 returns-4 c = let a = c .before .before .before .before .before .before .before .before .before .before .before .args in
-    rw (act-known (c .before .before .before .before .before .before), count-right (c .before .before), objects-in (c .before), lt-ltb (length (a .window .now)) (8 + 4 * word (a .window .now) 4) (omega arith))
+    rw (act-known (c .before .before .before .before .before .before), count-right (c .before .before), objects-in (c .before), lt-ltb (length (a .window .now)) (8 + 4 * word (a .window .now) 4) (omega arith)) refl
 
 returns-5 : tie.Need-returns-5
 returns-5 c = let a = c .before .before .before .before .before .before .before .before .before .before .before .args in
-    rw (act-known (c .before .before .before .before .before .before), count-right (c .before .before), objects-in (c .before), le-ltb (length (a .window .now)) (8 + 4 * word (a .window .now) 4) (omega arith))
+    rw (act-known (c .before .before .before .before .before .before), count-right (c .before .before), objects-in (c .before), le-ltb (length (a .window .now)) (8 + 4 * word (a .window .now) 4) (omega arith)) refl
 
 pub refuse-counts-spec : {M : Type 1} → statement M
 refuse-counts-spec =

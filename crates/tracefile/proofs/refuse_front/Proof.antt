@@ -1,7 +1,7 @@
 -- Each return by the tests passed on the way. Assumes nothing.
 use Prim.Native.Nat.{_+_}
 use mathlib.Core.Bool.{false}
-use mathlib.Core.Path.{_≡_}
+use mathlib.Core.Path.{_≡_, refl}
 use native.Mathlib.Omega.{arith}
 use lib.Dec.{ltb, leb}
 use lib.ListN.{length}
@@ -24,16 +24,16 @@ more : (c : tie.Else4) → leb 1000000 (c .before .before .before .before .befor
 more c = let a = c .before .before .before .before .before .args in lt-leb 1000000 (a .accepted) (omega arith)
 
 returns : tie.Need-returns
-returns c = let a = c .before .before .args in rw (lt-ltb (a .body) (a .at) (omega arith))
+returns c = let a = c .before .before .args in rw (lt-ltb (a .body) (a .at) (omega arith)) refl
 
 returns-2 : tie.Need-returns-2
-returns-2 c = let a = c .before .before .before .args in rw (at-in (c .before), lt-ltb (a .body) (a .at + 8) (omega arith))
+returns-2 c = let a = c .before .before .before .args in rw (at-in (c .before), lt-ltb (a .body) (a .at + 8) (omega arith)) refl
 
 returns-3 : tie.Need-returns-3
-returns-3 c = let a = c .before .before .before .before .args in rw (at-in (c .before .before), first-in (c .before), lt-ltb (length (a .window .now)) 8 (omega arith))
+returns-3 c = let a = c .before .before .before .before .args in rw (at-in (c .before .before), first-in (c .before), lt-ltb (length (a .window .now)) 8 (omega arith)) refl
 
 returns-4 : tie.Need-returns-4
-returns-4 c = let a = c .before .before .before .before .before .args in rw (at-in (c .before .before .before), first-in (c .before .before), there (c .before), le-leb 1000000 (a .accepted) (omega arith))
+returns-4 c = let a = c .before .before .before .before .before .args in rw (at-in (c .before .before .before), first-in (c .before .before), there (c .before), le-leb 1000000 (a .accepted) (omega arith)) refl
 
 refuse-counts-requires : tie.Need-refuse-counts-requires
 refuse-counts-requires c κs = search needs

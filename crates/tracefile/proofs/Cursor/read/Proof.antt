@@ -1,11 +1,14 @@
 -- Each arm by what the contents say. Assumes nothing.
 use Prim.Native.Nat.{ℕ, _<_}
 use mathlib.Core.List.{List}
-use mathlib.Core.Path.{sym, _∙_}
+use mathlib.Core.Path.{_≡_, sym, _∙_}
 use native.Mathlib.Omega.{arith}
 use lib.ListN.{getD}
+use Rattle.opening.proofs.OpenLaws.{contents-bodies, head-there}
+use Rattle.tracefile.specs.declared.Found.the-variants as found
+use Rattle.tracefile.specs.Answers.{nothing}
 use Rattle.tracefile.proofs.HandedLaws.{with-at-code}
-use Rattle.tracefile.proofs.OpenLaws.{word-small, contents-bodies, head-there, read-broken, read-whole}
+use Rattle.tracefile.proofs.ReadLaws.{word-small, read-broken, read-whole}
 use borrow.Author.Needs.{needs}
 use Rattle.tracefile.proofs.Cursor.read.Statement.{statement}
 use Rattle.tracefile.proofs.Cursor.read.Tie as tie
@@ -30,7 +33,10 @@ read-body-requires c κs = let s = c .before .before .before .before .before .be
     (s .pre .0, (s .pre .1, (head-there f (q .0), omega (arith, q .1, q .2, word-small f bytes 4, word-small f bytes 12))))
 
 returns : tie.Need-returns
-returns c = with-at-code _ _ _ _ _ (c .nothing .ensures ∙ read-broken (c .before .before .before .before .before .before .args .file .now) _ _ _ _ (sym (c .before .before .before .read-contents .ensures .0) ∙ c .before .enum-told .given .1))
+returns c =
+    let a = c .before .before .before .before .before .before .args in
+    let e : c .nothing .result ≡ nothing (found.Refused 71) (a .self .at) = c .nothing .ensures in
+    with-at-code _ _ _ _ _ (e ∙ read-broken (a .file .now) _ _ _ _ (sym (c .before .before .before .read-contents .ensures .0) ∙ c .before .enum-told .given .1))
 
 returns-2 : tie.Need-returns-2
 returns-2 c = with-at-code _ _ _ _ _ (c .read-body .ensures ∙ read-whole (c .before .before .before .before .before .before .before .args .file .now) _ _ _ _ _ _ (sym (c .before .before .before .before .read-contents .ensures .0) ∙ c .before .before .claimed .given .1))

@@ -46,8 +46,9 @@ returns-3 : tie.Need-returns-3
 unfolding bodyRead
 returns-3 c = let s = c .before .before .before .before .before .before in
     let a = s .args in
+    let w : c .before .window-at .result .now ≡ take 40 (drop (16 + a .claimed + a .self .at) (a .file .now)) = c .before .window-at .ensures in
     let e : take 40 (c .before .window-at .result .now) ≡ take 40 (drop (16 + a .claimed + a .self .at) (a .file .now)) =
-    ap (take 40) (c .before .window-at .ensures) ∙ take-take 40 40 (drop (16 + a .claimed + a .self .at) (a .file .now)) (omega arith) in
+    ap (take 40) w ∙ take-take 40 40 (drop (16 + a .claimed + a .self .at) (a .file .now)) (omega arith) in
     rw (le-ltb (length (a .file .now)) (16 + a .claimed) (omega arith))
     (c .read-window .ensures .0 ∙ window-enough _ (held-loaded _ (s .pre .0)) _ (a .accepted) (c .before .window-at .result .now) (a .file .now) (16 + a .claimed + a .self .at) e (a .body) (a .self .at))
 

@@ -7,11 +7,11 @@ use lib.Dec.{eqb}
 use lib.ListN.{length}
 use borrow.Author.Tests.{lt-ltb, le-ltb, eq-eqb, ne-eqb}
 use Rattle.words.specs.Words.{word}
-use Rattle.tracefile.specs.Trace.{contentsOf}
-use Rattle.tracefile.proofs.OpenLaws.{with-contents-code}
+use Rattle.opening.specs.Opening.{contentsOf}
+use Rattle.opening.proofs.OpenLaws.{with-contents-code}
 use borrow.Author.Needs.{needs}
-use Rattle.tracefile.proofs.open.read_contents.Statement.{statement}
-use Rattle.tracefile.proofs.open.read_contents.Tie as tie
+use Rattle.opening.proofs.read_contents.Statement.{statement}
+use Rattle.opening.proofs.read_contents.Tie as tie
 
 -- the tests passed
 starts : (c : tie.Else2) → eqb (word (c .before .before .before .before .before .before .args .head .now) 0) 16 ≡ true

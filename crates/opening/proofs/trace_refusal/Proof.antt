@@ -1,9 +1,9 @@
 -- Each arm by what the contents say. Assumes nothing.
 use mathlib.Core.Path.{sym, _∙_}
-use Rattle.tracefile.proofs.OpenLaws.{contents-bodies, head-there, open-broken, open-held}
+use Rattle.opening.proofs.OpenLaws.{contents-bodies, head-there, open-broken, open-held}
 use borrow.Author.Needs.{needs}
-use Rattle.tracefile.proofs.open.trace_refusal.Statement.{statement}
-use Rattle.tracefile.proofs.open.trace_refusal.Tie as tie
+use Rattle.opening.proofs.trace_refusal.Statement.{statement}
+use Rattle.opening.proofs.trace_refusal.Tie as tie
 
 read-contents-requires : tie.Need-read-contents-requires
 read-contents-requires c κs = search needs

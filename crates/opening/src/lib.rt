@@ -1,6 +1,6 @@
-// Opening a trail file: 71, then 11 and 12.
+// Opening a trail file: what its contents say, 71, then 11 and 12 of its register.
+// Above `words`, `net` and `replay`; `tracefile` reads the events behind the register, `conform` opens the trail that it is given.
 
-use crate::Contents;
 use replay::register::register_refusal;
 use words::wide;
 use words::word_at;
@@ -10,9 +10,14 @@ ghost use lib.ListN.{length, take, drop};
 ghost use Rattle.words.specs.Refusals.{first};
 ghost use Rattle.words.specs.Words.{wordsOf};
 ghost use Rattle.net.specs.Held.{netIn, Held};
-ghost use Rattle.tracefile.specs.Answers.{contentsCode};
-ghost use Rattle.tracefile.specs.Parts.{openCode};
-ghost use Rattle.tracefile.specs.Trace.{contentsTests, contentsOf, traceCode};
+ghost use Rattle.opening.specs.Opening.{contentsTests, contentsOf, contentsCode, openCode, traceCode};
+
+// What the first 16 bytes of a trail file say of its bodies: their lengths in bytes. `contentsCode` gives document 01's number.
+pub enum Contents {
+    // 71
+    Broken,
+    Bodies { register: usize, events: usize },
+}
 
 // The lengths of the two bodies, by the first 16 bytes.
 pub fn read_contents(head: &[u8]) -> Contents

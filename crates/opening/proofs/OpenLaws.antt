@@ -6,7 +6,7 @@ use mathlib.Core.List.{List, [], _∷_}
 use native.Mathlib.Decide.{ℕ-discrete}
 use native.Mathlib.Omega.{arith}
 use lib.Dec.{ltb, leb}
-use lib.ListN.{length, getD, take, drop, length-take, length-drop}
+use lib.ListN.{length, take, drop, length-take, length-drop}
 use borrow.Author.Tests.{ltb-true, ltb-false, leb-false, lt-ltb, eq-eqb, ne-eqb}
 use Rattle.words.specs.Lists.{pick, All}
 use Rattle.words.specs.Refusals.{first}
@@ -16,19 +16,12 @@ use Rattle.words.proofs.Refusals.{first-none, none-apply, first-then, first-sta
 use Rattle.words.proofs.Words.{length-words}
 use Rattle.net.specs.Net.{Net}
 use Rattle.replay.specs.Plain.{registerTests, registerCode}
-use Rattle.tracefile.specs.declared.Contents.{Contents}
-use Rattle.tracefile.specs.declared.Contents.the-variants.{Broken, Bodies}
-use Rattle.tracefile.specs.declared.Found.the-variants as found
-use Rattle.tracefile.specs.Answers.{contentsCode, nothing}
-use Rattle.tracefile.specs.Claims.{HeadEnough, OpenEnough}
-use Rattle.tracefile.specs.Parts.{Known, openCode, bodyRead}
-use Rattle.tracefile.specs.Trace.{contentsTests, contentsOf, shapeTests, registerOf, traceCode, readAt}
-use Rattle.tracefile.proofs.WindowLaws.{ltb-same, same-word, same-short}
-
--- a number in four bytes
-pub word-small : (b : List ℕ) → ((i : ℕ) → getD b i 0 < 256) → (i : ℕ) → word b i < 4294967296
-unfolding word
-word-small b h i = omega (arith, h i, h (i + 1), h (i + 2), h (i + 3))
+use Rattle.replay.specs.Ready.{KnownKinds}
+use Rattle.opening.specs.declared.Contents.{Contents}
+use Rattle.opening.specs.declared.Contents.the-variants.{Broken, Bodies}
+use Rattle.opening.specs.Claims.{HeadEnough, OpenEnough}
+use Rattle.opening.specs.Opening.{contentsTests, contentsOf, contentsCode, registerOf, traceCode, openCode}
+use Rattle.opening.proofs.SameBytes.{ltb-same, same-word, same-short}
 
 -- tests that all give the same number
 one-code : (c : ℕ) (ts : List (Bool × ℕ)) → All (λ (t : Bool × ℕ). t .1 ≡ c) ts → (first ts ≡ 0 → ⊥) → first ts ≡ c
@@ -58,22 +51,6 @@ module _ (f : List ℕ) where
 
   pub head-there : first (contentsTests f) ≡ 0 → 16 ≤ length f
   head-there e = whole-head e .0
-
-  -- reading in a file by what its contents say
-  module _ (N : Net) (ks : List ℕ) (accepted at : ℕ) where
-    pub read-broken : contentsOf f ≡ Broken → nothing (found.Refused 71) at ≡ readAt N ks accepted f at
-    unfolding readAt
-    read-broken e =
-        let c : first (contentsTests f) ≡ 71 = contents-broken e in
-        let z : first (shapeTests f) ≡ 71 = first-stays (contentsTests f) ((ltb (length f) (16 + word f 4), 71) ∷ []) (λ q. omega arith) ∙ c in
-        rw z
-
-    pub read-whole : (r e : ℕ) → contentsOf f ≡ Bodies r e → bodyRead N ks accepted f r e at ≡ readAt N ks accepted f at
-    unfolding readAt bodyRead
-    read-whole r e p =
-        let q = contents-bodies r e p in
-        let z : first (shapeTests f) ≡ first ((ltb (length f) (16 + word f 4), 71) ∷ []) = first-then (contentsTests f) ((ltb (length f) (16 + word f 4), 71) ∷ []) (q .0) (omega arith) in
-        rw (z, q .1, q .2)
 
   -- opening by what the contents say
   module _ (N : Net) where
@@ -145,15 +122,20 @@ contents-code b = go (ℕ-discrete (first (contentsTests b)) 0)
 pub with-contents-code : (b : List ℕ) {r : Contents} → r ≡ contentsOf b → (r ≡ contentsOf b) × (contentsCode r ≡ first (contentsTests b))
 with-contents-code b e = (e, ap contentsCode e ∙ contents-code b)
 
--- a register that is taken has only known kinds
-pub register-known : (N : Net) (ks : List ℕ) → registerCode N ks ≡ 0 → Known N ks
+-- a register that is not refused is wholly there
+pub not-refused : (N : Net) (claimed there : ℕ) (ks : List ℕ) → openCode N claimed there ks ≡ 0 → (claimed ≤ there) × (registerCode N ks ≡ 0)
+unfolding openCode
+not-refused N claimed there ks z =
+    let a = first-none (ltb there claimed) 71 (pick (ltb 4096 claimed) 11 (registerCode N ks)) (omega arith) z in
+    (ltb-false there claimed (a .0), first-none (ltb 4096 claimed) 11 (registerCode N ks) (omega arith) (a .1) .1)
+
+-- a register that is taken has only known kinds, so that the events of a file that is opened can be read
+pub register-known : (N : Net) (ks : List ℕ) → registerCode N ks ≡ 0 → KnownKinds N ks
 register-known N ks e =
     let t = none-apply (registerTests N ks) (omega arith) e in
     record {
       kind = λ o h. All-at (λ (k : ℕ). k < N .kinds) 0 ks (any-none (λ (k : ℕ). leb (N .kinds) k) (λ (k : ℕ). k < N .kinds) (λ k q. leb-false (N .kinds) k q) ks (t .1 .1 .0)) o h;
     }
 
-pub opened-known : (N : Net) (claimed there : ℕ) (ks : List ℕ) → openCode N claimed there ks ≡ 0 → Known N ks
-unfolding openCode
-opened-known N claimed there ks e =
-    register-known N ks (first-none (ltb 4096 claimed) 11 (registerCode N ks) (omega arith) (first-none (ltb there claimed) 71 (pick (ltb 4096 claimed) 11 (registerCode N ks)) (omega arith) e .1) .1)
+pub opened-known : (N : Net) (claimed there : ℕ) (ks : List ℕ) → openCode N claimed there ks ≡ 0 → KnownKinds N ks
+opened-known N claimed there ks e = register-known N ks (not-refused N claimed there ks e .1)

@@ -1,13 +1,13 @@
 -- Each return by the tests passed on the way. Assumes nothing.
 use mathlib.Core.Bool.{false}
-use mathlib.Core.Path.{_≡_}
+use mathlib.Core.Path.{_≡_, refl}
 use native.Mathlib.Omega.{arith}
 use lib.Dec.{ltb}
 use borrow.Author.Tests.{lt-ltb, le-ltb}
-use Rattle.tracefile.specs.Parts.{openCode}
+use Rattle.opening.specs.Opening.{openCode}
 use borrow.Author.Needs.{needs}
-use Rattle.tracefile.proofs.open.opening_refusal.Statement.{statement}
-use Rattle.tracefile.proofs.open.opening_refusal.Tie as tie
+use Rattle.opening.proofs.opening_refusal.Statement.{statement}
+use Rattle.opening.proofs.opening_refusal.Tie as tie
 
 -- the tests passed
 whole : (c : tie.Else1) → ltb (c .before .before .args .there) (c .before .before .args .claimed) ≡ false
@@ -18,11 +18,11 @@ few c = let a = c .before .before .before .args in le-ltb 4096 (a .claimed) (ome
 
 returns : tie.Need-returns
 unfolding openCode
-returns c = let a = c .before .before .args in rw (lt-ltb (a .there) (a .claimed) (omega arith))
+returns c = let a = c .before .before .args in rw (lt-ltb (a .there) (a .claimed) (omega arith)) refl
 
 returns-2 : tie.Need-returns-2
 unfolding openCode
-returns-2 c = let a = c .before .before .before .args in rw (whole (c .before), lt-ltb 4096 (a .claimed) (omega arith))
+returns-2 c = let a = c .before .before .before .args in rw (whole (c .before), lt-ltb 4096 (a .claimed) (omega arith)) refl
 
 register-refusal-requires : tie.Need-register-refusal-requires
 register-refusal-requires c κs = search needs
