@@ -1,4 +1,4 @@
--- The answer to an event as document 01's number, and what its tests may rely on.
+-- The answer to an event as document 01's number, and what testing it and carrying it out may rely on.
 use Prim.Native.Nat.{ℕ, _≤_, _<_}
 use mathlib.Core.Bool.{true}
 use mathlib.Core.Path.{_≡_}

@@ -1,4 +1,4 @@
--- The layout that a record's contents give: how many numbers there are, and reading some. Assumes nothing.
+-- The layout that a record's contents give: how many numbers there are, and what some of them are. Assumes nothing.
 use Prim.Native.Nat.{ℕ, _+_, _*_, _≤_, _<_}
 use mathlib.Core.Path.{_≡_, ap, sym, _∙_, subst}
 use mathlib.Core.List.{List}
