@@ -1,0 +1,3 @@
+mod DecimalLaws
+pub mod OverLaws
+mod FitnessLaws
