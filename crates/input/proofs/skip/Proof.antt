@@ -3,8 +3,8 @@ use Prim.Native.Nat.{_≤_}
 use mathlib.Core.Path.{_≡_}
 use native.Mathlib.Omega.{arith}
 use lib.ListN.{length}
-use Rattle.following.proofs.input.skip.Statement.{statement}
-use Rattle.following.proofs.input.skip.Tie as tie
+use Rattle.input.proofs.skip.Statement.{statement}
+use Rattle.input.proofs.skip.Tie as tie
 
 abbrev Inv-loop : tie.InvT-loop
 Inv-loop n buf₀ left₀ buf left = (length buf ≡ 65536) × (left ≤ n)

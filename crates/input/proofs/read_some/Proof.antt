@@ -2,8 +2,8 @@
 use native.Mathlib.Omega.{arith}
 use lib.ListN.{length-take}
 use borrow.Author.Needs.{needs}
-use Rattle.following.proofs.input.read_some.Statement.{statement}
-use Rattle.following.proofs.input.read_some.Tie as tie
+use Rattle.input.proofs.read_some.Statement.{statement}
+use Rattle.input.proofs.read_some.Tie as tie
 
 slice-relend-prefix-read-full : tie.Need-slice-relend-prefix-read-full
 slice-relend-prefix-read-full c = search needs

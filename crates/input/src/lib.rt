@@ -1,4 +1,5 @@
 // Reading the table file and standard input. A read that fails counts as the end.
+// Above the kit's `io` and `os` alone; `following` and `conform` use it.
 
 ghost use Prim.Native.Nat.{_≤_};
 ghost use lib.ListN.{length};

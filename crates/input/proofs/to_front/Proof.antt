@@ -3,8 +3,8 @@ use Prim.Native.Nat.{_≤_, _-_}
 use mathlib.Core.Path.{_≡_}
 use native.Mathlib.Omega.{arith}
 use lib.ListN.{length, length-set}
-use Rattle.following.proofs.input.to_front.Statement.{statement}
-use Rattle.following.proofs.input.to_front.Tie as tie
+use Rattle.input.proofs.to_front.Statement.{statement}
+use Rattle.input.proofs.to_front.Tie as tie
 
 abbrev Inv-loop : tie.InvT-loop
 Inv-loop buf₀ from i₀ n₀ buf i n = (length buf ≡ length buf₀) × (i ≤ length buf₀) × (n ≤ i)
