@@ -9,10 +9,9 @@ use lib.ListN.{length, getD, drop, length-append, drop-of-length-le}
 use lib.Seq.{drop-cons}
 use lib.Dec.{ltb}
 use borrow.Author.Tests.{lt-ltb, le-ltb, ne-eqb}
-use Rattle.words.specs.Lists.{All}
+use Rattle.words.specs.Lists.{All, over}
 use Rattle.words.specs.Refusals.{first}
 use Rattle.words.proofs.Refusals.{first-then, first-stays}
-use Rattle.replay.specs.Calls.{over}
 use Rattle.text.specs.Fields.{wordText, fieldText}
 use Rattle.lines.specs.Lines.{fieldsText, lineOf}
 use Rattle.lines.specs.Answer.{codeOf, sizeOf, lineCode, Writes}

@@ -7,7 +7,7 @@ use Rattle.text.specs.Fields.{wordText, fieldText}
 use Rattle.text.specs.declared.field.Word.{Word}
 use Rattle.text.specs.declared.field.Word.the-variants.{Trail, Place, Act, Jump, Refused}
 use Rattle.text.specs.declared.field.Field.{Field}
-use Rattle.text.specs.declared.field.Field.the-variants.{Nothing, Number, Fitness}
+use Rattle.text.specs.declared.field.Field.the-variants.{Number, Fitness}
 
 -- the fields of a line, and the line feed that ends it
 abbrev pub fieldsText : List Field → List ℕ

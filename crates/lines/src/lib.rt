@@ -7,7 +7,7 @@ ghost use mathlib.Core.Path.{_≡_};
 ghost use mathlib.Core.List.{[]};
 ghost use Prim.Native.Nat.{_≤_};
 ghost use lib.ListN.{length};
-ghost use Rattle.replay.specs.Calls.{over};
+ghost use Rattle.words.specs.Lists.{over};
 ghost use Rattle.lines.specs.Lines.{fieldsText, lineOf, trailLine, placeLine, actLine, jumpLine, refusedLine};
 ghost use Rattle.lines.specs.Answer.{sizeOf, Writes};
 

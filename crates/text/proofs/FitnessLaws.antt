@@ -8,9 +8,8 @@ use native.Mathlib.Nat.{div-le-of-le-mul, mul-comm, mul-le-mul-left}
 use native.Mathlib.Omega.{arith}
 use lib.Dec.{eqb}
 use lib.ListN.{length, set}
-use Rattle.words.specs.Lists.{pick}
+use Rattle.words.specs.Lists.{pick, over}
 use Rattle.digits.specs.Code.{digitCode, hundreds, tens, units}
-use Rattle.replay.specs.Calls.{over}
 use Rattle.text.specs.Fitness.{thousandths, fitness}
 use Rattle.text.specs.declared.fitness.Fitness.the-variants.{Undefined, Thousandths}
 

@@ -1,3 +1,2 @@
 mod DecimalLaws
-pub mod OverLaws
 mod FitnessLaws

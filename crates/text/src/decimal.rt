@@ -3,7 +3,7 @@
 ghost use mathlib.Core.Path.{_≡_};
 ghost use Prim.Native.Nat.{_≤_};
 ghost use lib.ListN.{length};
-ghost use Rattle.replay.specs.Calls.{over};
+ghost use Rattle.words.specs.Lists.{over};
 ghost use Rattle.text.specs.Decimal.{decimal};
 
 // How many digits n has.

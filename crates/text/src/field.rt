@@ -4,7 +4,7 @@ ghost use mathlib.Core.Path.{_≡_};
 ghost use mathlib.Core.List.{_∷_};
 ghost use Prim.Native.Nat.{_≤_};
 ghost use lib.ListN.{length};
-ghost use Rattle.replay.specs.Calls.{over};
+ghost use Rattle.words.specs.Lists.{over};
 ghost use Rattle.text.specs.Decimal.{decimal};
 ghost use Rattle.text.specs.Fitness.{fitness, fitnessText};
 ghost use Rattle.text.specs.Fields.{wordText, fieldText};

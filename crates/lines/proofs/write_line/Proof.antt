@@ -3,7 +3,7 @@ use mathlib.Core.Path.{ap, _∙_}
 use native.Mathlib.Omega.{arith}
 use Rattle.text.specs.Fields.{wordText}
 use Rattle.lines.specs.Lines.{fieldsText, lineOf}
-use Rattle.text.proofs.OverLaws.{overAt, part-back, behind-start}
+use Rattle.words.proofs.Over.{overAt, part-back, behind-start}
 use Rattle.lines.proofs.LineLaws.{line-length, no-room, with-room}
 use borrow.Author.Needs.{needs}
 use Rattle.lines.proofs.write_line.Statement.{statement}

@@ -5,7 +5,7 @@ use native.Mathlib.Omega.{arith}
 use lib.ListN.{length, length-set}
 use Rattle.text.specs.Decimal.{decimal}
 use Rattle.text.proofs.DecimalLaws.{small, more, one-more, few}
-use Rattle.text.proofs.OverLaws.{over-first, over-more}
+use Rattle.words.proofs.Over.{over-first, over-more}
 use borrow.Fn.Kinds.{In}
 use borrow.Fn.PlainCycle.{Measures, is, falls, and}
 use Rattle.text.proofs.decimal.put.Reads as put

@@ -3,7 +3,7 @@ use mathlib.Core.Path.{refl, ap, sym, _∙_}
 use native.Mathlib.Omega.{arith}
 use lib.ListN.{length}
 use Rattle.text.specs.Fitness.{fitnessText}
-use Rattle.text.proofs.OverLaws.{over-first}
+use Rattle.words.proofs.Over.{over-first}
 use Rattle.text.proofs.FitnessLaws.{thousandths-le}
 use borrow.Author.Needs.{needs}
 use Rattle.text.proofs.fitness.put.Statement.{statement}

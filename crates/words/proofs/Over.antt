@@ -1,12 +1,12 @@
--- Laws of text written over the start of lent bytes, and of text written behind it. Assumes nothing.
+-- Laws of `over`: text written over the start of lent bytes, and text written behind it. Assumes nothing.
 use mathlib.Core.Path.{_≡_, refl, ap, sym, subst, _∙_}
 use mathlib.Core.List.{List, [], _∷_, _++_, append-nil}
 use Prim.Native.Nat.{ℕ, zero, suc, _+_, _-_, _≤_, _<_}
 use native.Mathlib.Nat.{le-of-suc-le-suc, not-suc-le-zero}
 use native.Mathlib.Omega.{arith}
 use lib.ListN.{length, take, drop, set, length-append, length-take, length-drop, drop-of-length-le}
-use lib.Seq.{take-all}
-use Rattle.replay.specs.Calls.{over}
+use lib.Seq.{take-all, sets, sets-eq}
+use Rattle.words.specs.Lists.{over}
 
 -- text written over the bytes from a place on
 unfoldable pub overAt : ℕ → List ℕ → List ℕ → List ℕ
@@ -15,6 +15,12 @@ overAt at text xs = take at xs ++ over text (drop at xs)
 pub over-first : (xs : List ℕ) (x : ℕ) → 0 < length xs → set xs 0 x ≡ over (x ∷ []) xs
 over-first [] x h = absurd (not-suc-le-zero h)
 over-first (a ∷ xs) x h = refl
+
+-- text stored from the first byte on
+pub sets-over : (text xs : List ℕ) → length text ≤ length xs → sets xs 0 text ≡ over text xs
+sets-over text xs h =
+    let z : 0 + length text ≡ length text = omega arith in
+    sets-eq text xs 0 (omega arith) ∙ ap (λ (n : ℕ). text ++ drop n xs) z
 
 -- a byte more behind the text
 pub over-more : (text xs : List ℕ) (x : ℕ) → length text < length xs → set (over text xs) (length text) x ≡ over (text ++ (x ∷ [])) xs
