@@ -17,7 +17,7 @@ use Rattle.replay.specs.Calls.{netAt, stateAt, askCode, askBytes}
 use Rattle.replay.specs.Ready.{Ready}
 use Rattle.replay.proofs.RecordLaws.{ready-loaded}
 use Rattle.events.specs.Answers.{askEvent}
-use Rattle.moves.proofs.Calls.{ready-asked}
+use Rattle.replay.proofs.Calls.{ready-asked}
 use Rattle.bench.specs.Bench.{rowSize, rowAt, rowsOf, eventsIn, accepted, carried}
 
 -- n numbers that are kept one by one are the front of the list

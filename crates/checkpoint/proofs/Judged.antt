@@ -9,7 +9,7 @@ use lib.ListN.{length}
 use lib.Dec.{eqb}
 use borrow.Author.Tests.{eqb-true, eqb-false, ltb-false, leb-false, not-true, eq-eqb, ne-eqb, le-ltb, lt-leb}
 use Rattle.words.specs.Lists.{either}
-use Rattle.words.proofs.Lists.{is-eq, not-eqb, clash, anyTo-none, anyTo-false}
+use Rattle.words.proofs.Lists.{is-eq, not-eqb, clash, both-false, both-then, anyTo-none, anyTo-false}
 use Rattle.words.proofs.Refusals.{None}
 use Rattle.net.specs.Net.{Net}
 use Rattle.replay.specs.Plain.{registerCode}
@@ -17,22 +17,7 @@ use Rattle.replay.specs.State.{State}
 use Rattle.replay.specs.Sound.{Sound}
 use Rattle.replay.specs.Record.{countsSize}
 use Rattle.replay.proofs.Accepted.{Registered, registered, register-ok}
-use Rattle.checkpoint.specs.Restore.{both, apart, tests45, tests46, tests47}
-
-both-false : (s t : Bool) → (s ≡ true → t ≡ false) → both s t ≡ false
-both-false true t h = h refl
-both-false false t h = refl
-
-both-then : (s t : Bool) → both s t ≡ false → s ≡ true → t ≡ false
-both-then true t e q = e
-both-then false t e q = clash (sym q)
-
-pub both-true : (s t : Bool) → s ≡ true → t ≡ true → both s t ≡ true
-both-true s t p q = cc
-
-pub both-right : (s t : Bool) → both s t ≡ true → t ≡ true
-both-right true t e = e
-both-right false t e = clash (sym e)
+use Rattle.checkpoint.specs.Restore.{apart, tests45, tests46, tests47}
 
 either-two : (s t : Bool) → either (s ∷ t ∷ []) ≡ true → (s ≡ true) ⊎ (t ≡ true)
 either-two true t e = inl refl

@@ -3,4 +3,4 @@ pub mod Spans
 pub mod Judged
 pub mod Restored
 pub mod Demands
-pub mod Copies
+pub mod Saves

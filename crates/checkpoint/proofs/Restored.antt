@@ -11,7 +11,7 @@ use lib.Dec.{leb, eqb}
 use borrow.Author.Tests.{eqb-true, ltb-false, not-false, eq-eqb, le-ltb, le-leb}
 use Rattle.words.specs.Lists.{pick}
 use Rattle.words.specs.Words.{word, bytesOf, bodiesOf}
-use Rattle.words.proofs.Lists.{is-eq, not-eqb, All-append}
+use Rattle.words.proofs.Lists.{is-eq, not-eqb, both-true, both-right, All-append}
 use Rattle.words.proofs.Refusals.{None, none-apply, first-zero, none-split}
 use Rattle.net.specs.Net.{Net, Loaded}
 use Rattle.net.specs.Table.{netOf, loadTests, loadCode}
@@ -24,7 +24,7 @@ use Rattle.replay.proofs.Encode.{Laid, counts-size, encode-le, intact-laid, int
 use Rattle.replay.proofs.Keep.{sound-ask}
 use Rattle.checkpoint.specs.Restore.{beginsClosed, tests44, tests45, tests46, tests47, restoreTests, restoreCode}
 use Rattle.checkpoint.proofs.Spans.{Ends, ends-at, at-ends, words-from-length, words-from-bytes, words-read, words-head, glue, interleave-parted, parted-length}
-use Rattle.checkpoint.proofs.Judged.{both-true, both-right, sound-registered, sound45, sound46, sound47, judged-sound}
+use Rattle.checkpoint.proofs.Judged.{sound-registered, sound45, sound46, sound47, judged-sound}
 
 -- a table that loads has at most 4,704 bytes
 pub table-le : (b : List ℕ) → loadCode b ≡ 0 → length b ≤ 4704

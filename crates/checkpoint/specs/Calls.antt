@@ -4,10 +4,10 @@ use mathlib.Core.Bool.{Bool}
 use mathlib.Core.List.{List, [], _∷_}
 use lib.ListN.{length}
 use lib.Dec.{ltb, eqb}
-use Rattle.words.specs.Lists.{pick}
+use Rattle.words.specs.Lists.{pick, over}
 use Rattle.words.specs.Refusals.{first}
 use Rattle.replay.specs.Plain.{Ask}
-use Rattle.replay.specs.Calls.{askCode, askBytes, over}
+use Rattle.replay.specs.Calls.{askCode, askBytes}
 use Rattle.checkpoint.specs.Restore.{restoreCode, restoreBytes}
 
 -- 61: the lent part, of `room` bytes, is shorter than the trail's record, which is the trail's bytes

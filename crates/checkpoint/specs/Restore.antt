@@ -1,10 +1,10 @@
 -- Restoring (taking up) a checkpoint (desk record): the refusals 41 to 47, and the trail that is taken up.
 use Prim.Native.Nat.{ℕ, _*_, _%_}
-use mathlib.Core.Bool.{Bool, false, not}
+use mathlib.Core.Bool.{Bool, not}
 use mathlib.Core.List.{List, [], _∷_, _++_}
 use lib.ListN.{length, getD}
 use lib.Dec.{ltb, leb, eqb}
-use Rattle.words.specs.Lists.{pick, either, anyTo, sumTo}
+use Rattle.words.specs.Lists.{pick, either, both, anyTo, sumTo}
 use Rattle.words.specs.Refusals.{first}
 use Rattle.words.specs.Words.{word, bodiesOf, endsAt}
 use Rattle.net.specs.Net.{Net}
@@ -13,10 +13,6 @@ use Rattle.replay.specs.Plain.{registerCode}
 use Rattle.replay.specs.State.{State, storedConsumed, storedPair, storedJumpsIn, storedMoved, storedJumps}
 use Rattle.replay.specs.Record.{tableIn, countsSize}
 use Rattle.replay.specs.Calls.{netAt, stateAt}
-
--- both tests hold
-abbrev pub both : Bool → Bool → Bool
-both s t = pick s t false
 
 -- 41: the length. 42: the layout. 43: the table. 44: the register, of whole rows, is refused.
 abbrev pub tests41 : List ℕ → List (Bool × ℕ)

@@ -5,13 +5,13 @@ use mathlib.Core.Path.{_≡_}
 use mathlib.Core.List.{List, [], _∷_, _++_}
 use lib.ListN.{length}
 use lib.Dec.{ltb, eqb}
-use Rattle.words.specs.Lists.{pick}
+use Rattle.words.specs.Lists.{pick, over}
 use Rattle.words.specs.Refusals.{first}
 use Rattle.words.specs.Words.{bodiesOf, endsAt}
 use Rattle.net.specs.Table.{loadCode}
 use Rattle.net.specs.Held.{netIn, afterLoad, Held}
 use Rattle.replay.specs.Record.{tableIn}
-use Rattle.replay.specs.Calls.{netAt, over}
+use Rattle.replay.specs.Calls.{netAt}
 use Rattle.checkpoint.specs.Restore.{tests41, tests42, restoreTests}
 
 -- none of 41 and 42 applies to the record b

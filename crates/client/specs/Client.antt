@@ -4,11 +4,11 @@ use mathlib.Core.Bool.{Bool}
 use mathlib.Core.List.{List}
 use lib.ListN.{length}
 use lib.Dec.{eqb}
-use Rattle.words.specs.Lists.{pick}
+use Rattle.words.specs.Lists.{pick, over}
 use Rattle.words.specs.Words.{wordsOf}
 use Rattle.net.specs.Table.{loadCode}
 use Rattle.replay.specs.Plain.{Ask}
-use Rattle.replay.specs.Calls.{askCode, askBytes, over, startRecord, startCode}
+use Rattle.replay.specs.Calls.{askCode, askBytes, startRecord, startCode}
 use Rattle.checkpoint.specs.Restore.{restoreSecond}
 use Rattle.checkpoint.specs.Calls.{saveCode, saveBytes}
 use Rattle.checkpoint.specs.Take.{takeCode}

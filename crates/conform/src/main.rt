@@ -2,9 +2,9 @@
 // refusal, to standard output. What it reads and writes is tested; proved is that it is safe and ends on every input.
 
 use following::follow;
-use following::input::read_file;
-use following::input::read_some;
-use following::input::skip;
+use input::read_file;
+use input::read_some;
+use input::skip;
 use opening::Contents;
 use opening::opening_refusal;
 use opening::read_contents;

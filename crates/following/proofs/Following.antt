@@ -19,7 +19,7 @@ use Rattle.replay.specs.Calls.{stateAt, askCode, askBytes}
 use Rattle.replay.specs.Ready.{KnownKinds}
 use Rattle.replay.proofs.Accepted.{accepted}
 use Rattle.replay.proofs.RecordLaws.{ready-loaded, ready-sound}
-use Rattle.moves.proofs.Calls.{code-is, ready-asked, state-taken}
+use Rattle.replay.proofs.Calls.{code-is, ready-asked, state-taken}
 use Rattle.tracefile.specs.declared.Answer.{Answer}
 use Rattle.tracefile.specs.declared.Found.the-variants as found
 use Rattle.tracefile.specs.Claims.{Handed}

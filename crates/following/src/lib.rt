@@ -1,7 +1,7 @@
 // The events of a trail from standard input, read through a window and carried out one by one; then the close and the report.
-// Above `tracefile`, `events` and `closing`; `conform` uses it once a trail is started.
+// Above `tracefile`, `events`, `closing`, `printing` and `input`; `conform` uses it once a trail is started.
 
-use crate::input::refill;
+use input::refill;
 use printing::print;
 use printing::refuse;
 use tracefile::Cursor;
@@ -12,8 +12,6 @@ ghost use mathlib.Core.Path.{_≡_};
 ghost use Prim.Native.Nat.{_≤_};
 ghost use lib.ListN.{length};
 ghost use Rattle.following.specs.Follows.{Follows, Stepped};
-
-pub mod input;
 
 // Where the reading stands: byte `from` of the window is byte `at` of the events body, and `accepted` events are accepted.
 pub struct Spot {

@@ -7,7 +7,7 @@ use native.Mathlib.Omega.{arith}
 use lib.ListN.{length, getD, drop}
 use lib.Dec.{ltb, eqb}
 use borrow.Author.Tests.{eq-eqb, ne-eqb, lt-ltb, le-ltb, ltb-false}
-use Rattle.words.specs.Lists.{either, anyTo, sumTo}
+use Rattle.words.specs.Lists.{either, anyTo, sumTo, both}
 use Rattle.words.specs.Words.{wordsOf}
 use Rattle.words.proofs.Lists.{any-none, anyTo-none, anyTo-false, is-eq}
 use Rattle.words.proofs.Refusals.{None}
@@ -16,7 +16,7 @@ use Rattle.words.proofs.Words.{length-words}
 use Rattle.net.specs.Net.{Net}
 use Rattle.replay.specs.Plain.{registerCode}
 use Rattle.replay.specs.Record.{countsSize, evens, odds}
-use Rattle.checkpoint.specs.Restore.{both, tests46}
+use Rattle.checkpoint.specs.Restore.{tests46}
 use Rattle.judging.specs.Judge.{hit, bodyState, Counted}
 use Rattle.judging.proofs.Totals.{same-false, fired-at, jumps-at}
 

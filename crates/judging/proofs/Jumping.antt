@@ -8,25 +8,16 @@ use native.Mathlib.Decide.{ℕ-discrete}
 use lib.ListN.{getD, drop}
 use lib.Dec.{ltb, eqb}
 use borrow.Author.Tests.{eq-eqb, ne-eqb}
-use Rattle.words.specs.Lists.{pick, anyTo, sumTo}
+use Rattle.words.specs.Lists.{pick, anyTo, sumTo, both}
 use Rattle.words.specs.Words.{wordsOf}
-use Rattle.words.proofs.Lists.{anyTo-none, anyTo-false, is-eq, not-eqb, clash}
+use Rattle.words.proofs.Lists.{anyTo-none, anyTo-false, is-eq, not-eqb, both-false, both-then}
 use Rattle.words.proofs.Sums.{sumTo-same}
 use Rattle.net.specs.Net.{Net}
 use Rattle.replay.specs.State.{inputs, sunkOn, storedConsumed}
 use Rattle.replay.specs.Record.{odds}
-use Rattle.checkpoint.specs.Restore.{both, apart, tests47}
+use Rattle.checkpoint.specs.Restore.{apart, tests47}
 use Rattle.judging.specs.Judge.{hit, bodyState, pairIn, foreignIn, barredIn}
 use Rattle.judging.proofs.Totals.{same-false, sum-none, none-sum, any-sum, sum-columns, fired-at, jumps-at}
-
--- two tests of which the second fails where the first holds
-both-then : (s t : Bool) → both s t ≡ false → s ≡ true → t ≡ false
-both-then true t e q = e
-both-then false t e q = clash (sym q)
-
-both-none : (s t : Bool) → t ≡ false → both s t ≡ false
-both-none true t e = e
-both-none false t e = refl
 
 module _ (N : Net) (js : List ℕ) where
   -- a count from x to y that is not 0 where no jump can lead
@@ -47,12 +38,12 @@ module _ (N : Net) (js : List ℕ) where
           go y l (no n) (no m) = rw (ne-eqb (N .kindOf x) (N .kindOf y) n) (is-eq _ _ (both-then (apart N x y) _ (f y l) (rw (ne-eqb x y m, ne-eqb (N .kindOf x) (N .kindOf y) n))))
 
       clear : barredIn N js x ≡ 0 → (y : ℕ) → y < N .places → Dec (x ≡ y) → Dec (N .kindOf x ≡ N .kindOf y) → bad x y ≡ false
-      clear z y l (yes e) d = both-none (apart N x y) _ (not-eqb _ _ (ap (pairIn N js x) (sym e) ∙ own))
+      clear z y l (yes e) d = both-false (apart N x y) _ (λ q. not-eqb _ _ (ap (pairIn N js x) (sym e) ∙ own))
         where
           own : pairIn N js x x ≡ 0
           own = omega arith
       clear z y l (no n) (yes e) = rw (ne-eqb x y n, eq-eqb (N .kindOf x) (N .kindOf y) e)
-      clear z y l (no n) (no m) = both-none (apart N x y) _ (not-eqb _ _ (rw (ne-eqb (N .kindOf x) (N .kindOf y) m) at (sum-none (N .places) (foreignIn N js x (N .kindOf x)) (omega arith) y l)))
+      clear z y l (no n) (no m) = both-false (apart N x y) _ (λ q. not-eqb _ _ (rw (ne-eqb (N .kindOf x) (N .kindOf y) m) at (sum-none (N .places) (foreignIn N js x (N .kindOf x)) (omega arith) y l)))
 
   barred-is : anyTo (N .places) (λ (x : ℕ). anyTo (N .places) (bad x)) ≡ not (eqb (sumTo (N .places) (barredIn N js)) 0)
   barred-is = any-sum (N .places) (λ (x : ℕ). anyTo (N .places) (bad x)) (barredIn N js) row-clear

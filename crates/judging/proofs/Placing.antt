@@ -7,10 +7,11 @@ use native.Mathlib.Decide.{ℕ-discrete}
 use lib.ListN.{length, getD}
 use lib.Dec.{leb, eqb}
 use borrow.Author.Tests.{eq-eqb, ne-eqb, le-leb, lt-leb}
-use Rattle.words.specs.Lists.{pick, any, either, anyTo, upto}
+use Rattle.words.specs.Lists.{pick, any, either, anyTo, upto, both}
+use Rattle.words.proofs.Lists.{both-false}
 use Rattle.net.specs.Net.{Net, Loaded}
 use Rattle.replay.specs.State.{State}
-use Rattle.checkpoint.specs.Restore.{both, tests45}
+use Rattle.checkpoint.specs.Restore.{tests45}
 use Rattle.judging.specs.Judge.{hit, badPosition}
 
 or-last : (a b : Bool) → true ≡ pick a true (pick b true true)
@@ -53,13 +54,9 @@ or-both : (c x y : Bool) → pick (both c x) true (both c y) ≡ both c (pick x 
 or-both true x y = refl
 or-both false x y = refl
 
-both-none : (c : Bool) → both c false ≡ false
-both-none true = refl
-both-none false = refl
-
 module _ {A : Type 0} (f g h : A → Bool) (c : Bool) where
   three : (xs : List A) → any (λ (x : A). either (f x ∷ g x ∷ both c (h x) ∷ [])) xs ≡ either (any f xs ∷ any g xs ∷ both c (any h xs) ∷ [])
-  three [] = rw (both-none c)
+  three [] = rw (both-false c false (λ q. refl))
   three (x ∷ xs) = rw (three xs) (or-swap (f x) (any f xs) (g x) (any g xs) (both c (h x)) (both c (any h xs)) ∙ ap (λ (b : Bool). either (pick (f x) true (any f xs) ∷ pick (g x) true (any g xs) ∷ b ∷ [])) (or-both c (h x) (any h xs)))
 
 -- the whole test: by its length, and object by object

@@ -5,14 +5,14 @@ use mathlib.Core.Path.{_≡_}
 use mathlib.Core.List.{List, [], _∷_, _++_}
 use lib.ListN.{length, getD}
 use lib.Dec.{leb, eqb}
-use Rattle.words.specs.Lists.{pick, any, either, one, sumTo}
+use Rattle.words.specs.Lists.{pick, any, either, one, sumTo, both}
 use Rattle.words.specs.Refusals.{first}
 use Rattle.words.specs.Words.{word, wordsOf}
 use Rattle.net.specs.Net.{Net, takes, inputOf}
 use Rattle.replay.specs.Plain.{registerCode}
 use Rattle.replay.specs.State.{State}
 use Rattle.replay.specs.Record.{countsSize, stateFrom}
-use Rattle.checkpoint.specs.Restore.{both, tests45, tests46, tests47}
+use Rattle.checkpoint.specs.Restore.{tests45, tests46, tests47}
 
 -- one of the tests holds
 abbrev pub hit : List (Bool × ℕ) → Bool

@@ -7,11 +7,11 @@ ghost use mathlib.Core.Path.{_≡_};
 ghost use Prim.Native.Nat.{ℕ, _+_, _*_, _<_, _≤_};
 ghost use lib.Dec.{ltb, eqb};
 ghost use lib.ListN.{length, getD};
-ghost use Rattle.words.specs.Lists.{either, anyTo, sumTo};
+ghost use Rattle.words.specs.Lists.{either, anyTo, sumTo, both};
 ghost use Rattle.words.specs.Words.{wordsOf};
 ghost use Rattle.net.specs.Held.{netIn, Held};
 ghost use Rattle.replay.specs.Record.{countsSize};
-ghost use Rattle.checkpoint.specs.Restore.{both, tests46};
+ghost use Rattle.checkpoint.specs.Restore.{tests46};
 ghost use Rattle.judging.specs.Judge.{hit, bodyState};
 
 // The same number with room to add.

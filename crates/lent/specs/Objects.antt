@@ -3,9 +3,8 @@ use Prim.Native.Nat.{ℕ, _%_}
 use mathlib.Core.List.{List}
 use lib.ListN.{length, replicate}
 use lib.Dec.{eqb, leb}
-use Rattle.words.specs.Lists.{pick}
+use Rattle.words.specs.Lists.{pick, both}
 use Rattle.words.specs.Words.{wordsOf}
-use Rattle.checkpoint.specs.Restore.{both}
 
 -- the list's numbers; nine, which is more than any activity takes and so gives 24, where it is of no whole rows or has over
 -- eight

@@ -1,4 +1,1 @@
-mod DecimalLaws
-mod OverLaws
-mod FitnessLaws
 pub mod LineLaws

@@ -9,15 +9,15 @@ use lib.ListN.{length, getD, drop, length-append, drop-of-length-le}
 use lib.Seq.{drop-cons}
 use lib.Dec.{ltb}
 use borrow.Author.Tests.{lt-ltb, le-ltb, ne-eqb}
-use Rattle.words.specs.Lists.{All}
+use Rattle.words.specs.Lists.{All, over}
 use Rattle.words.specs.Refusals.{first}
 use Rattle.words.proofs.Refusals.{first-then, first-stays}
-use Rattle.replay.specs.Calls.{over}
-use Rattle.lines.specs.Lines.{wordText, fieldText, fieldsText, lineOf}
+use Rattle.text.specs.Fields.{wordText, fieldText}
+use Rattle.lines.specs.Lines.{fieldsText, lineOf}
 use Rattle.lines.specs.Answer.{codeOf, sizeOf, lineCode, Writes}
-use Rattle.lines.specs.declared.field.Word.{Word}
-use Rattle.lines.specs.declared.field.Field.{Field}
-use Rattle.lines.specs.declared.field.Field.the-variants.{Nothing}
+use Rattle.text.specs.declared.field.Word.{Word}
+use Rattle.text.specs.declared.field.Field.{Field}
+use Rattle.text.specs.declared.field.Field.the-variants.{Nothing}
 use Rattle.lines.specs.declared.LineAnswer.{LineAnswer}
 use Rattle.lines.specs.declared.LineAnswer.the-variants.{Written, NoRoom}
 

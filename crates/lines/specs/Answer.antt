@@ -5,9 +5,8 @@ use mathlib.Core.Path.{_≡_}
 use mathlib.Core.List.{List, [], _∷_, _++_}
 use lib.ListN.{length}
 use lib.Dec.{ltb, eqb}
-use Rattle.words.specs.Lists.{pick}
+use Rattle.words.specs.Lists.{pick, over}
 use Rattle.words.specs.Refusals.{first}
-use Rattle.replay.specs.Calls.{over}
 use Rattle.lines.specs.declared.LineAnswer.{LineAnswer}
 use Rattle.lines.specs.declared.LineAnswer.the-variants.{Written, UnknownPlace, UnknownActivity, NoRoom}
 

@@ -1,5 +1,2 @@
-pub mod Text
-pub mod Decimal
-pub mod Fitness
 pub mod Lines
 pub mod Answer

@@ -3,26 +3,11 @@ use Prim.Native.Nat.{ℕ}
 use mathlib.Core.List.{List, [], _∷_, _++_}
 use lib.Dec.{eqb}
 use Rattle.words.specs.Lists.{pick}
-use Rattle.lines.specs.Text.{ascii}
-use Rattle.lines.specs.Decimal.{decimal}
-use Rattle.lines.specs.Fitness.{fitness, fitnessText}
-use Rattle.lines.specs.declared.field.Word.{Word}
-use Rattle.lines.specs.declared.field.Word.the-variants.{Trail, Place, Act, Jump, Refused}
-use Rattle.lines.specs.declared.field.Field.{Field}
-use Rattle.lines.specs.declared.field.Field.the-variants.{Nothing, Number, Fitness}
-
-abbrev pub wordText : Word → List ℕ
-wordText Trail = ascii "trail"
-wordText Place = ascii "place"
-wordText Act = ascii "act"
-wordText Jump = ascii "jump"
-wordText Refused = ascii "refused"
-
--- a field behind one space; a field that is left out is nothing at all
-abbrev pub fieldText : Field → List ℕ
-fieldText Nothing = []
-fieldText (Number n) = 32 ∷ decimal n
-fieldText (Fitness jumps transfers) = 32 ∷ fitnessText (fitness jumps transfers)
+use Rattle.text.specs.Fields.{wordText, fieldText}
+use Rattle.text.specs.declared.field.Word.{Word}
+use Rattle.text.specs.declared.field.Word.the-variants.{Trail, Place, Act, Jump, Refused}
+use Rattle.text.specs.declared.field.Field.{Field}
+use Rattle.text.specs.declared.field.Field.the-variants.{Number, Fitness}
 
 -- the fields of a line, and the line feed that ends it
 abbrev pub fieldsText : List Field → List ℕ

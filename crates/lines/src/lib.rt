@@ -1,19 +1,15 @@
-// The lines of the report (the sheet) as text in lent bytes, by their numbers: each whole, or not at all where the part is
-// shorter. Above `digits`; of `replay` it uses one definition, of bytes in front of lent ones. `report` takes the numbers from a trail.
+// The lines of the report (the sheet) in lent bytes, by their numbers: each whole, or not at all where the part is shorter.
+// Above `text`, which writes their words and fields. `report` takes the numbers from a trail, `printing` writes refusals.
 
-use crate::field::Field;
-use crate::field::Word;
+use text::field::Field;
+use text::field::Word;
 ghost use mathlib.Core.Path.{_≡_};
 ghost use mathlib.Core.List.{[]};
 ghost use Prim.Native.Nat.{_≤_};
 ghost use lib.ListN.{length};
-ghost use Rattle.replay.specs.Calls.{over};
+ghost use Rattle.words.specs.Lists.{over};
 ghost use Rattle.lines.specs.Lines.{fieldsText, lineOf, trailLine, placeLine, actLine, jumpLine, refusedLine};
 ghost use Rattle.lines.specs.Answer.{sizeOf, Writes};
-
-mod decimal;
-mod field;
-mod fitness;
 
 // The answer to writing a line. `codeOf` gives document 01's number.
 pub enum LineAnswer {
@@ -47,7 +43,7 @@ fn fields_width(fs: [Field; 5]) -> usize
     let mut i = 0;
     while i < 5 {
         let f = fs[i];
-        n += crate::field::field_width(f);
+        n += text::field::field_width(f);
         i += 1;
     }
     n
@@ -62,7 +58,7 @@ fn put_fields(fs: [Field; 5], out: &mut [u8])
     let mut i = 0;
     while i < 5 {
         let f = fs[i];
-        at += crate::field::put_field(f, &mut out[at..]);
+        at += text::field::put_field(f, &mut out[at..]);
         i += 1;
     }
     out[at] = 10;
@@ -72,11 +68,11 @@ fn put_fields(fs: [Field; 5], out: &mut [u8])
 fn write_line(w: Word, fs: [Field; 5], out: &mut [u8]) -> LineAnswer
     ensures { λ r. ⌜ Writes [] (lineOf w fs) (now (out .entry)) r (now (out .exit)) ⌝ }
 {
-    let n = crate::field::word_width(w) + fields_width(fs);
+    let n = text::field::word_width(w) + fields_width(fs);
     if out.len() < n {
         return LineAnswer::NoRoom;
     }
-    let at = crate::field::put_word(w, out);
+    let at = text::field::put_word(w, out);
     put_fields(fs, &mut out[at..]);
     LineAnswer::Written(n)
 }

@@ -6,10 +6,11 @@ use native.Mathlib.Omega.{arith}
 use lib.ListN.{length}
 use lib.Dec.{leb}
 use lib.Seq.{sets}
+use Rattle.words.specs.Lists.{over}
 use Rattle.words.specs.Words.{bytesOf}
 use Rattle.words.specs.Put.{Put}
 use Rattle.words.proofs.Words.{length-bytes}
-use Rattle.replay.specs.Calls.{netAt, over}
+use Rattle.replay.specs.Calls.{netAt}
 use Rattle.counts.specs.Reads.{placeRead, actRead, pairRead, trailRead}
 use Rattle.counts.specs.declared.PlaceCounts.{PlaceCounts}
 use Rattle.counts.specs.declared.PlaceRead.the-variants as place
@@ -17,7 +18,7 @@ use Rattle.counts.specs.declared.ActCounts.{ActCounts}
 use Rattle.counts.specs.declared.ActRead.the-variants as act
 use Rattle.counts.specs.declared.PairRead.the-variants as pair
 use Rattle.counts.specs.declared.TrailCounts.{TrailCounts}
-use Rattle.checkpoint.proofs.Copies.{sets-over}
+use Rattle.words.proofs.Over.{sets-over}
 use Rattle.report.proofs.TrailLaws.{place-held, act-held, pair-stored}
 use Rattle.numbers.specs.Numbers.{trailNumbers, placeNumbers, actNumbers, pairNumbers}
 

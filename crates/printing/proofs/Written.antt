@@ -6,8 +6,7 @@ use mathlib.Core.List.{List}
 use native.Mathlib.Omega.{arith}
 use lib.ListN.{length, drop, length-append, length-drop}
 use lib.Dec.{eqb}
-use Rattle.words.specs.Lists.{pick}
-use Rattle.replay.specs.Calls.{over}
+use Rattle.words.specs.Lists.{pick, over}
 use Rattle.lines.specs.Answer.{sizeOf, lineCode, Writes}
 use Rattle.lines.specs.declared.LineAnswer.{LineAnswer}
 

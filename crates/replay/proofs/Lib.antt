@@ -1,5 +1,6 @@
 pub mod Accepted
 pub mod Agree
+pub mod Calls
 pub mod Encode
 pub mod Interleave
 pub mod Keep

@@ -3,9 +3,9 @@
 use Prim.Native.Nat.{ℕ}
 use mathlib.Core.Bool.{Bool}
 use mathlib.Core.List.{List, [], _∷_, _++_}
-use lib.ListN.{length, drop}
+use lib.ListN.{length}
 use lib.Dec.{ltb, eqb}
-use Rattle.words.specs.Lists.{pick}
+use Rattle.words.specs.Lists.{pick, over}
 use Rattle.words.specs.Refusals.{first}
 use Rattle.net.specs.Net.{Net}
 use Rattle.net.specs.Table.{netOf}
@@ -26,10 +26,6 @@ askCode b q = answerS (netAt b) (stateAt b) q
 
 unfoldable pub askBytes : List ℕ → Ask → List ℕ
 askBytes b q = pick (eqb (askCode b q) 0) (encode (tableIn b) (acceptS (netAt b) (stateAt b) q)) b
-
--- x in front of the lent bytes, which stay as they are behind it
-abbrev pub over : List ℕ → List ℕ → List ℕ
-over x lent = x ++ drop (length x) lent
 
 -- starting: the record of a table that is loaded and of the objects' kinds
 unfoldable pub startRecord : List ℕ → List ℕ → List ℕ

@@ -2,8 +2,8 @@
 use mathlib.Core.Path.{refl}
 use Rattle.replay.specs.Rows.{M}
 use Rattle.report.specs.Report.{reportOf}
-use Rattle.lines.specs.Decimal.{decimal}
-use Rattle.lines.specs.Fitness.{thousandths, fitness}
+use Rattle.text.specs.Decimal.{decimal}
+use Rattle.text.specs.Fitness.{thousandths, fitness}
 use Rattle.lines.specs.Lines.{lineOf}
 use Rattle.report.specs.Rows.{lines, rounding, whole, RowsHold}
 

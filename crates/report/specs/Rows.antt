@@ -6,8 +6,8 @@ use mathlib.Core.List.{List, [], _∷_}
 use Rattle.words.specs.Lists.{All}
 use Rattle.replay.specs.Plain.{close, start, run}
 use Rattle.replay.specs.Rows.{M, ev, three}
-use Rattle.lines.specs.Text.{ascii}
-use Rattle.lines.specs.Fitness.{fitness, fitnessText}
+use Rattle.text.specs.Text.{ascii}
+use Rattle.text.specs.Fitness.{fitness, fitnessText}
 use Rattle.lines.specs.Lines.{trailLine, placeLine, actLine, jumpLine}
 use Rattle.report.specs.Report.{reportOf}
 

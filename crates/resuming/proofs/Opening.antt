@@ -9,7 +9,7 @@ use lib.ListN.{length, take, drop, length-take, length-drop}
 use lib.Seq.{getD-take}
 use lib.Dec.{ltb, leb, eqb}
 use borrow.Author.Tests.{eqb-true, eqb-false, eq-eqb, ne-eqb, lt-ltb, le-ltb, lt-leb}
-use Rattle.words.specs.Lists.{pick}
+use Rattle.words.specs.Lists.{pick, over, both}
 use Rattle.words.specs.Refusals.{first}
 use Rattle.words.specs.Words.{word, wordsOf, bodiesOf, endsAt}
 use Rattle.words.proofs.Lists.{is-eq}
@@ -20,8 +20,8 @@ use Rattle.net.specs.Held.{afterLoad, netIn}
 use Rattle.net.proofs.HeldLaws.{loaded-held, held-net}
 use Rattle.replay.specs.Plain.{registerCode}
 use Rattle.replay.specs.Record.{countsSize, wordsFrom, tableIn, stateFrom, stateIn}
-use Rattle.replay.specs.Calls.{netAt, stateAt, over}
-use Rattle.checkpoint.specs.Restore.{both, beginsClosed, tests45, tests46, tests47, restoreTests, restoreCode, restoreSecond}
+use Rattle.replay.specs.Calls.{netAt, stateAt}
+use Rattle.checkpoint.specs.Restore.{beginsClosed, tests45, tests46, tests47, restoreTests, restoreCode, restoreSecond}
 use Rattle.checkpoint.specs.Take.{Framed, Opened, checkedWords, takeCode, takeBytes}
 use Rattle.judging.specs.Judge.{beginsOne, judgeCode, judgeSecond}
 use Rattle.checkpoint.proofs.Spans.{ends-at, words-take, word-drop}

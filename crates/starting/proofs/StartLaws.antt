@@ -8,7 +8,7 @@ use lib.ListN.{length, getD, set, replicate, length-append, length-replicate, le
 use lib.Dec.{ltb}
 use lib.Seq.{sets}
 use borrow.Author.Tests.{eq-eqb, ne-eqb, lt-ltb, le-ltb}
-use Rattle.words.specs.Lists.{pick, All}
+use Rattle.words.specs.Lists.{pick, All, over}
 use Rattle.words.specs.Words.{wordsOf, bytesOf}
 use Rattle.words.proofs.Words.{length-words, bytes-of-words}
 use Rattle.words.proofs.Refusals.{first-then, first-stays}
@@ -21,7 +21,7 @@ use Rattle.replay.specs.Plain.{registerTests, registerCode}
 use Rattle.replay.specs.State.{State, startState}
 use Rattle.replay.specs.Sound.{Sound}
 use Rattle.replay.specs.Record.{interleave, counts, countsSize, contents}
-use Rattle.replay.specs.Calls.{over, startRecord, startCode, startBytes}
+use Rattle.replay.specs.Calls.{startRecord, startCode, startBytes}
 use Rattle.starting.specs.Startable.{Startable, contentsOf}
 use Rattle.replay.proofs.Accepted.{registered}
 use Rattle.replay.proofs.Keep.{sound-start}

@@ -1,4 +1,5 @@
 pub mod Lists
 pub mod Refusals
 pub mod Sums
+pub mod Over
 pub mod Words

@@ -2,14 +2,14 @@
 use Prim.Native.Nat.{ℕ, zero, suc, _+_, _≤_, _<_}
 use mathlib.Core.Bool.{Bool, true, false, not}
 use mathlib.Core.Logic.{_↔_}
-use mathlib.Core.Path.{_≡_, refl, ap}
+use mathlib.Core.Path.{_≡_, refl, ap, sym}
 use mathlib.Core.List.{List, [], _∷_, _++_, map}
 use native.Mathlib.Omega.{arith}
 use native.Mathlib.Decide.{ℕ-discrete}
 use lib.ListN.{length, getD, take, drop, replicate}
 use lib.Dec.{eqb}
 use borrow.Author.Tests.{eqb-true, eqb-false, not-false, eq-eqb}
-use Rattle.words.specs.Lists.{pick, any, All, In, here, there, keep, upto, anyTo}
+use Rattle.words.specs.Lists.{pick, any, both, All, In, here, there, keep, upto, anyTo}
 
 -- a number that is not 0
 pub pos : (n : ℕ) → (n ≡ 0 → ⊥) → 0 < n
@@ -25,6 +25,22 @@ not-eqb a b e = ap not (eq-eqb a b e)
 -- true is not false
 pub clash : {A : Type 0} → true ≡ false → A
 clash e = absurd (eqb-false 0 0 e refl)
+
+-- two tests: the second fails where the first holds
+pub both-false : (s t : Bool) → (s ≡ true → t ≡ false) → both s t ≡ false
+both-false true t h = h refl
+both-false false t h = refl
+
+pub both-then : (s t : Bool) → both s t ≡ false → s ≡ true → t ≡ false
+both-then true t e q = e
+both-then false t e q = clash (sym q)
+
+pub both-true : (s t : Bool) → s ≡ true → t ≡ true → both s t ≡ true
+both-true s t p q = cc
+
+pub both-right : (s t : Bool) → both s t ≡ true → t ≡ true
+both-right true t e = e
+both-right false t e = clash (sym e)
 
 pub All-append : {A : Type 0} (P : A → Type 0) (xs ys : List A) → All P xs → All P ys → All P (xs ++ ys)
 All-append P [] ys a b = b
@@ -93,11 +109,11 @@ any-false f (x ∷ xs) a = rw (a .0) (any-false f xs (a .1))
 
 pub keep-append : {A : Type 0} (f : A → Bool) (xs ys : List A) → keep f (xs ++ ys) ≡ keep f xs ++ keep f ys
 keep-append f [] ys = refl
-keep-append f (x ∷ xs) ys = rw (keep-append f xs ys) (both (f x))
+keep-append f (x ∷ xs) ys = rw (keep-append f xs ys) (go (f x))
   where
-    both : (b : Bool) → pick b (x ∷ (keep f xs ++ keep f ys)) (keep f xs ++ keep f ys) ≡ pick b (x ∷ keep f xs) (keep f xs) ++ keep f ys
-    both true = refl
-    both false = refl
+    go : (b : Bool) → pick b (x ∷ (keep f xs ++ keep f ys)) (keep f xs ++ keep f ys) ≡ pick b (x ∷ keep f xs) (keep f xs) ++ keep f ys
+    go true = refl
+    go false = refl
 
 pub map-append : {A B : Type 0} (f : A → B) (xs ys : List A) → map f (xs ++ ys) ≡ map f xs ++ map f ys
 map-append f [] ys = refl

@@ -1,7 +1,8 @@
--- The vocabulary of lists that all definitions share: choice, search, counts and sums.
+-- The vocabulary of lists that all definitions share: choice, search, counts, sums and parts.
 use Prim.Native.Nat.{ℕ, zero, suc, _+_}
 use mathlib.Core.Bool.{Bool, true, false}
-use mathlib.Core.List.{List, [], _∷_}
+use mathlib.Core.List.{List, [], _∷_, _++_}
+use lib.ListN.{length, take, drop}
 use lib.Dec.{eqb}
 
 -- a where the test holds, else b
@@ -17,6 +18,10 @@ any f (x ∷ xs) = pick (f x) true (any f xs)
 -- one of the tests holds
 abbrev pub either : List Bool → Bool
 either ts = any (λ (t : Bool). t) ts
+
+-- both tests hold
+abbrev pub both : Bool → Bool → Bool
+both s t = pick s t false
 
 -- every element has the property
 abbrev pub All {ℓ} : {A : Type ℓ} → (A → Type 0) → List A → Type 0
@@ -78,4 +83,8 @@ pairUp (x ∷ y ∷ r) = (x, y) ∷ pairUp r
 -- the list cut into parts of the given lengths, from its front
 abbrev pub parts {ℓ} : {A : Type ℓ} → List ℕ → List A → List (List A)
 parts [] xs = []
-parts (n ∷ ns) xs = lib.ListN.take n xs ∷ parts ns (lib.ListN.drop n xs)
+parts (n ∷ ns) xs = take n xs ∷ parts ns (drop n xs)
+
+-- x in front of the lent bytes, which stay as they are behind it
+abbrev pub over : List ℕ → List ℕ → List ℕ
+over x lent = x ++ drop (length x) lent

@@ -1,5 +1,5 @@
 // Four-byte numbers in byte slices, least significant byte first, and the layout of files that begin with contents pairs.
-// The lowest room: all crates but `digits` lean on it, and it uses nothing.
+// The lowest room: all crates but `digits` and `input` lean on it, and it uses nothing.
 
 ghost use mathlib.Core.Path.{_≡_};
 ghost use Prim.Native.Nat.{_+_, _*_, _<_, _≤_};

@@ -11,7 +11,7 @@ use Rattle.words.proofs.Lists.{not-eqb}
 use Rattle.replay.specs.Calls.{stateAt, askCode}
 use Rattle.closing.specs.Answers.{askClose}
 use Rattle.replay.proofs.RecordLaws.{ready-contents, ready-bytes}
-use Rattle.moves.proofs.Calls.{code-is, bytes-taken, bytes-refused}
+use Rattle.replay.proofs.Calls.{code-is, bytes-taken, bytes-refused}
 use Rattle.moves.proofs.Layouts.{closed-in, closed-read}
 use Rattle.closing.proofs.Sinks.{can-close, closed-numbers}
 use borrow.Author.Needs.{needs}

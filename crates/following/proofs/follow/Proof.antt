@@ -2,7 +2,7 @@
 use mathlib.Core.Path.{sym, subst}
 use Rattle.replay.specs.Plain.{close}
 use Rattle.replay.specs.Ready.{Ready}
-use Rattle.moves.proofs.Calls.{ready-asked}
+use Rattle.replay.proofs.Calls.{ready-asked}
 use borrow.Author.Needs.{needs}
 use Rattle.following.proofs.follow.Statement.{statement}
 use Rattle.following.proofs.follow.Tie as tie

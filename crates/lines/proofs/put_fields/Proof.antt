@@ -6,10 +6,11 @@ use mathlib.Core.Path.{_≡_, refl, ap, sym, _∙_}
 use mathlib.Core.List.{List}
 use native.Mathlib.Omega.{arith}
 use lib.ListN.{length, getD, drop, length-set, length-drop}
-use Rattle.replay.specs.Calls.{over}
-use Rattle.lines.specs.Lines.{fieldText, fieldsText}
-use Rattle.lines.specs.declared.field.Field.the-variants.{Nothing}
-use Rattle.lines.proofs.OverLaws.{overAt, part, part-back, from-start, behind, one-over, length-overAt}
+use Rattle.words.specs.Lists.{over}
+use Rattle.text.specs.Fields.{fieldText}
+use Rattle.lines.specs.Lines.{fieldsText}
+use Rattle.text.specs.declared.field.Field.the-variants.{Nothing}
+use Rattle.words.proofs.Over.{overAt, part, part-back, from-start, behind, one-over, length-overAt}
 use Rattle.lines.proofs.LineLaws.{fields-step, fields-step-length, fields-end}
 use Rattle.lines.proofs.put_fields.Statement.{statement}
 use Rattle.lines.proofs.put_fields.Tie as tie

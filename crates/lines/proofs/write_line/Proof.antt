@@ -1,8 +1,9 @@
 -- The line fits by its length, and then the word and the fields behind it are the whole line. Assumes nothing.
 use mathlib.Core.Path.{ap, _∙_}
 use native.Mathlib.Omega.{arith}
-use Rattle.lines.specs.Lines.{wordText, fieldsText, lineOf}
-use Rattle.lines.proofs.OverLaws.{overAt, part-back, behind-start}
+use Rattle.text.specs.Fields.{wordText}
+use Rattle.lines.specs.Lines.{fieldsText, lineOf}
+use Rattle.words.proofs.Over.{overAt, part-back, behind-start}
 use Rattle.lines.proofs.LineLaws.{line-length, no-room, with-room}
 use borrow.Author.Needs.{needs}
 use Rattle.lines.proofs.write_line.Statement.{statement}

@@ -6,7 +6,7 @@ use native.Mathlib.Omega.{arith}
 use lib.ListN.{length, drop, length-set}
 use lib.Seq.{sets}
 use Rattle.net.proofs.Stores.{store-more, store-end}
-use Rattle.checkpoint.proofs.Copies.{sets-over}
+use Rattle.words.proofs.Over.{sets-over}
 use borrow.Author.Needs.{needs}
 use Rattle.resuming.proofs.copy_front.Statement.{statement}
 use Rattle.resuming.proofs.copy_front.Tie as tie

@@ -1,6 +1,6 @@
 -- Too little room changes nothing; else the copy is the whole save. Assumes nothing.
 use mathlib.Core.Path.{_∙_}
-use Rattle.checkpoint.proofs.Copies.{save-short, save-fits}
+use Rattle.checkpoint.proofs.Saves.{save-short, save-fits}
 use borrow.Author.Needs.{needs}
 use Rattle.resuming.proofs.save.Statement.{statement}
 use Rattle.resuming.proofs.save.Tie as tie

@@ -6,7 +6,7 @@ use native.Mathlib.Omega.{arith}
 use Rattle.replay.specs.Plain.{kindsOf}
 use Rattle.events.specs.Answers.{askEvent, Moving}
 use Rattle.replay.proofs.RecordLaws.{ready-contents, ready-bytes}
-use Rattle.moves.proofs.Calls.{code-is, bytes-taken}
+use Rattle.replay.proofs.Calls.{code-is, bytes-taken}
 use Rattle.events.proofs.Asked.{few-objects, register-fits, register-words}
 use Rattle.events.proofs.Taken.{can-take}
 use borrow.Author.Needs.{needs}

@@ -12,7 +12,7 @@ use Rattle.events.specs.Answers.{eventCode, askEvent}
 use Rattle.events.specs.declared.event.EventAnswer.{EventAnswer}
 use Rattle.events.specs.declared.event.EventAnswer.the-variants.{Taken, Closed, Full, Activity, Number, Object, Kind, TwoOfKind}
 use Rattle.events.proofs.event.EventAnswer.{the-type}
-use Rattle.moves.proofs.Calls.{code-is, bytes-taken, bytes-refused}
+use Rattle.replay.proofs.Calls.{code-is, bytes-taken, bytes-refused}
 use Rattle.events.proofs.Taken.{can-take}
 use Rattle.replay.proofs.RecordLaws.{ready-contents, ready-bytes}
 use borrow.Author.Needs.{needs}

@@ -5,13 +5,12 @@ use mathlib.Core.List.{[], _∷_}
 use mathlib.Core.Path.{_≡_, ap, ap₂, sym, _∙_}
 use lib.ListN.{length, getD}
 use lib.Dec.{ltb, eqb}
-use Rattle.words.specs.Lists.{either, sumTo}
+use Rattle.words.specs.Lists.{either, sumTo, both}
 use Rattle.words.specs.Words.{wordsOf}
 use Rattle.words.proofs.Words.{length-words}
 use Rattle.net.specs.Held.{netIn}
 use Rattle.net.proofs.HeldLaws.{held-loaded}
 use Rattle.replay.specs.Record.{countsSize}
-use Rattle.checkpoint.specs.Restore.{both}
 use Rattle.judging.proofs.Counting.{counts-size, counts-flag, counts-events, counts-fired, counts-above, counts-closing}
 use native.Mathlib.Omega.{arith}
 use borrow.Author.Needs.{needs}

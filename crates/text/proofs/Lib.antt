@@ -1,0 +1,2 @@
+mod DecimalLaws
+mod FitnessLaws
