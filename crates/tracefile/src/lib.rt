@@ -128,9 +128,9 @@ fn read_event(window: &[u8], at: usize, register: &[u8], t: &[u32; 1684]) -> Ans
     let activity = word_at(window, 0);
     let count = word_at(window, 4);
     let n = wide(count);
-    let objects = read_objects(window, n);
+    let end = 8 + 4 * n;
     let mut kinds = [0u32; 8];
-    let code = refuse_objects(&objects[..n], wide(activity), register, t, &mut kinds);
+    let code = refuse_objects(&window[8..end], wide(activity), register, t, &mut kinds);
     if code != 0 {
         return nothing(Found::Refused(code), at);
     }
@@ -139,7 +139,7 @@ fn read_event(window: &[u8], at: usize, register: &[u8], t: &[u32; 1684]) -> Ans
         event: Event {
             activity,
             count,
-            objects,
+            objects: read_objects(window, n),
         },
         next: Cursor { at: at + 8 + 4 * n },
     }
