@@ -1,17 +1,14 @@
 -- A trail that is followed: what the reader may rely on, and what an event that it hands out does. Assumes nothing.
-use Prim.Native.Nat.{ℕ, _+_, _≤_, _<_}
-use mathlib.Core.Bool.{Bool, true, false}
-use mathlib.Core.Path.{_≡_, refl, ap, sym, subst, _∙_}
+use Prim.Native.Nat.{ℕ, _+_, _-_, _*_, _≤_, _<_}
+use mathlib.Core.Bool.{true}
+use mathlib.Core.Path.{_≡_, ap, sym, subst, _∙_}
 use mathlib.Core.List.{List}
 use native.Mathlib.Omega.{arith}
-use lib.ListN.{length, replicate}
-use lib.Dec.{eqb}
-use lib.Seq.{length-sets}
-use Rattle.words.specs.Lists.{pick, All}
-use Rattle.words.specs.Refusals.{first}
-use Rattle.words.specs.Words.{word, wordsOf}
+use lib.ListN.{length, take, drop, length-drop}
+use lib.Seq.{take-all, drop-drop}
+use Rattle.words.specs.Lists.{All}
+use Rattle.words.specs.Words.{wordsOf}
 use Rattle.words.proofs.Lists.{All-at, clash}
-use Rattle.net.specs.Net.{Net}
 use Rattle.net.specs.Held.{netIn}
 use Rattle.replay.specs.Plain.{Event, event, refusal}
 use Rattle.replay.specs.State.{State, acceptS}
@@ -23,9 +20,8 @@ use Rattle.replay.proofs.Calls.{code-is, ready-asked, state-taken}
 use Rattle.tracefile.specs.declared.Answer.{Answer}
 use Rattle.tracefile.specs.declared.Found.the-variants as found
 use Rattle.tracefile.specs.Claims.{Handed}
-use Rattle.tracefile.specs.Answers.{nothing, unless}
-use Rattle.tracefile.specs.Trace.{objectsAt, endTests, endFound, eventFound, readTests, readFrom}
-use Rattle.tracefile.proofs.HandedLaws.{handed}
+use Rattle.tracefile.specs.Trace.{readFrom}
+use Rattle.tracefile.proofs.HandedLaws.{handed, handed-bytes}
 use Rattle.following.specs.Follows.{Follows, Stepped}
 use Rattle.following.specs.declared.Spot.{Spot}
 use Rattle.following.specs.declared.Outcome.{Outcome}
@@ -66,21 +62,15 @@ module _ (t rec register : List ℕ) (n : ℕ) (F : Follows t rec register n) wh
       subst (Handed (netIn t) (wordsOf register) n (length window) 0 body at) (sym q)
       (handed (netIn t) (ready-loaded t rec (F .ready)) (wordsOf register) n window 0 body at (sym (ap (λ (a : Answer). a .found) q) ∙ f))
 
--- an answer holds eight objects
-unless-eight : (c : ℕ) (a : Answer) (at : ℕ) → length (a .event .objects) ≡ 8 → length (unless c a at .event .objects) ≡ 8
-unless-eight c a at e = go (eqb c 0)
-  where
-    go : (x : Bool) → length (pick x a (nothing (found.Refused c) at) .event .objects) ≡ 8
-    go true = e
-    go false = refl
-
-pub read-eight : (N : Net) (ks : List ℕ) (n : ℕ) (w : List ℕ) (from body at : ℕ) → length (readFrom N ks n w from body at .event .objects) ≡ 8
-unfolding readFrom
-read-eight N ks n w from body at = go (eqb at body)
-  where
-    go : (x : Bool) → length (pick x (endFound w from at) (unless (first (readTests N ks n w from body at)) (eventFound w from at) at) .event .objects) ≡ 8
-    go true = unless-eight (first (endTests w from)) (nothing found.End at) at refl
-    go false = unless-eight (first (readTests N ks n w from body at)) (eventFound w from at) at (length-sets (replicate 8 0) 0 (objectsAt w (from + 8) (word w (from + 4))))
+  -- its objects stand in the window, read from byte `from` on
+  pub read-bytes : (window : List ℕ) (from body at : ℕ) (r : Answer) → r ≡ readFrom (netIn t) (wordsOf register) n (take (length window - from) (drop from window)) 0 body at → r .found ≡ found.Event
+      → wordsOf (take (4 * r .event .count) (drop (from + 8) window)) ≡ take (r .event .count) (r .event .objects)
+  read-bytes window from body at r q f =
+      let w : List ℕ = take (length window - from) (drop from window) in
+      let a : w ≡ drop from window = take-all (length window - from) (drop from window) (omega (arith, length-drop from window)) in
+      ap (λ (l : List ℕ). wordsOf (take (4 * r .event .count) l)) (sym (ap (drop 8) a ∙ drop-drop 8 from window))
+      ∙ subst (λ (r : Answer). wordsOf (take (4 * r .event .count) (drop 8 w)) ≡ take (r .event .count) (r .event .objects)) (sym q)
+      (handed-bytes (netIn t) (ready-loaded t rec (F .ready)) (wordsOf register) n w 0 body at (sym (ap (λ (a : Answer). a .found) q) ∙ f))
 
 -- where it is over nothing has changed
 pub over-follows : (t rec register : List ℕ) (size : ℕ) (spot : Spot) (r : Outcome) → Follows t rec register (spot .accepted) → spot .from ≤ size → r .spot ≡ spot → r .over ≡ true

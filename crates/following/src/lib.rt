@@ -64,11 +64,12 @@ fn step(
             let next = answer.next;
             let n = wide(event.count);
             let act = event.activity;
-            let objects = event.objects;
-            events::event::apply(rec, t, act, &objects[..n]);
+            let first = from + 8;
+            let last = first + 4 * n;
+            events::event::apply(rec, t, act, &window[first..last]);
             Outcome {
                 spot: Spot {
-                    from: from + 8 + 4 * n,
+                    from: last,
                     at: next.at,
                     accepted: accepted + 1,
                 },

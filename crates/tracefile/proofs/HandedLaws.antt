@@ -4,10 +4,10 @@ use mathlib.Core.Path.{_≡_, refl, ap, sym, subst, _∙_}
 use mathlib.Core.List.{List}
 use native.Mathlib.Decide.{ℕ-discrete}
 use native.Mathlib.Omega.{arith}
-use lib.ListN.{length}
+use lib.ListN.{length, take, drop}
 use borrow.Author.Tests.{ltb-false, leb-false, eq-eqb, ne-eqb}
 use Rattle.words.specs.Refusals.{first}
-use Rattle.words.specs.Words.{word}
+use Rattle.words.specs.Words.{word, wordsOf}
 use Rattle.words.proofs.Lists.{is-eq}
 use Rattle.words.proofs.Refusals.{none-apply, first-zero}
 use Rattle.net.specs.Net.{Net, Loaded}
@@ -18,7 +18,7 @@ use Rattle.tracefile.specs.declared.Found.the-variants as found
 use Rattle.tracefile.specs.Answers.{codeOf, nothing, unless}
 use Rattle.tracefile.specs.Claims.{Handed, HandedOut}
 use Rattle.tracefile.specs.Trace.{objectsAt, eventAt, endTests, readTests, eventFound, readCode, readFrom, readAtCode, readAt}
-use Rattle.tracefile.proofs.ObjectLaws.{length-objects, first-of-eight}
+use Rattle.tracefile.proofs.ObjectLaws.{length-objects, bytes-objects, first-of-eight}
 
 unless-event : (c : ℕ) (a : Answer) (at : ℕ) → unless c a at .found ≡ found.Event → (c ≡ 0) × (unless c a at ≡ a)
 unless-event c a at p = go (ℕ-discrete c 0)
@@ -70,6 +70,17 @@ module _ (N : Net) (L : Loaded N) (ks : List ℕ) (accepted : ℕ) where
     -- The law of the event handed out, by reading in bytes and in a file.
     pub handed : readFrom N ks accepted b from body at .found ≡ found.Event → Handed N ks accepted (length b) from body at (readFrom N ks accepted b from body at)
     handed p = let s = event-only p in subst (Handed N ks accepted (length b) from body at) (sym (s .1)) (handed-found (s .0))
+
+    -- the bytes behind the first two numbers hold its objects
+    abbrev Held-in : Answer → Type 0
+    Held-in r = wordsOf (take (4 * r .event .count) (drop (from + 8) b)) ≡ take (r .event .count) (r .event .objects)
+
+    pub handed-bytes : readFrom N ks accepted b from body at .found ≡ found.Event → Held-in (readFrom N ks accepted b from body at)
+    handed-bytes p =
+        let s = event-only p in
+        let h = handed-found (s .0) in
+        let n = word b (from + 4) in
+        subst Held-in (sym (s .1)) (bytes-objects b n (from + 8) (h .there) ∙ sym (first-of-eight (objectsAt b (from + 8) n) n (length-objects b (from + 8) n) (h .few)))
 
 pub handed-out : (N : Net) → Loaded N → HandedOut N
 unfolding readAt

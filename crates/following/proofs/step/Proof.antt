@@ -6,23 +6,28 @@ use native.Mathlib.Omega.{arith}
 use lib.ListN.{length, take, drop, length-take, length-drop}
 use Rattle.words.specs.Words.{wordsOf}
 use Rattle.net.specs.Held.{netIn}
-use Rattle.replay.specs.Plain.{refusal}
-use Rattle.tracefile.specs.declared.Answer.{Answer}
+use Rattle.replay.specs.Plain.{Event, refusal}
 use Rattle.following.specs.Follows.{Follows}
-use Rattle.following.proofs.Following.{kinds-known, event-code, event-room, event-follows, read-handed, read-eight, over-follows}
+use Rattle.following.proofs.Following.{kinds-known, event-code, event-room, event-follows, read-handed, read-bytes, over-follows}
 use borrow.Author.Needs.{needs}
 use Rattle.following.proofs.step.Statement.{statement}
 use Rattle.following.proofs.step.Tie as tie
 
--- what the event handed out is
+-- the event handed out, its objects by the bytes in the window
+abbrev event-at : tie.After-wide → Event
+event-at c =
+    let s = c .before .before .before .before .before .before .before .before .before .before in
+    let from = s .args .spot .from in
+    record {
+      act = c .before .before .before .before .before .read-window .result .event .activity;
+      objs = wordsOf (take (from + 8 + 4 * c .wide .result - (from + 8)) (drop (from + 8) (s .args .window .now)));
+    }
+
 record Handed-at (c : tie.After-wide) : Type 0 where
   taken :
       let s = c .before .before .before .before .before .before .before .before .before .before in
-      let e = c .before .before .before .before .before .read-window .result .event in
-      refusal (netIn (s .args .t .now)) (wordsOf (s .args .register .now)) 0 (s .args .spot .accepted) (record { act = e .activity; objs = take (c .wide .result) (e .objects) }) ≡ 0
+      refusal (netIn (s .args .t .now)) (wordsOf (s .args .register .now)) 0 (s .args .spot .accepted) (event-at c) ≡ 0
   room : c .before .before .before .before .before .before .before .before .before .before .args .spot .accepted < 1000000
-  few : c .wide .result ≤ 8
-  eight : length (c .before .before .before .before .before .read-window .result .event .objects) ≡ 8
   there : c .before .before .before .before .before .before .before .before .before .before .args .spot .from + 8 + 4 * c .wide .result ≤ length (c .before .before .before .before .before .before .before .before .before .before .args .window .now)
 
 handed-at : (c : tie.After-wide) → Handed-at c
@@ -30,15 +35,19 @@ handed-at c =
     let s = c .before .before .before .before .before .before .before .before .before .before in
     let r = c .before .before .before .before .before .read-window in
     let e = c .before .before .before .before .before .read-window .result .event in
-    let n : ℕ = length (s .args .window .now) - s .args .spot .from in
-    let w : List ℕ = take n (drop (s .args .spot .from) (s .args .window .now)) in
-    let h = read-handed (s .args .t .now) (s .args .rec .now) (s .args .register .now) (s .args .spot .accepted) (s .pre .0) w (s .args .body) (s .args .spot .at) (r .result) (r .ensures .0) (c .before .before .before .enum-told2 .given .1) in
+    let from = s .args .spot .from in
+    let n : ℕ = length (s .args .window .now) - from in
+    let w : List ℕ = take n (drop from (s .args .window .now)) in
+    let f = c .before .before .before .enum-told2 .given .1 in
+    let h = read-handed (s .args .t .now) (s .args .rec .now) (s .args .register .now) (s .args .spot .accepted) (s .pre .0) w (s .args .body) (s .args .spot .at) (r .result) (r .ensures .0) f in
+    let k : from + 8 + 4 * c .wide .result - (from + 8) ≡ 4 * e .count = omega (arith, c .wide .ensures) in
+    let b : wordsOf (take (from + 8 + 4 * c .wide .result - (from + 8)) (drop (from + 8) (s .args .window .now))) ≡ take (e .count) (e .objects) =
+    ap (λ (k : ℕ). wordsOf (take k (drop (from + 8) (s .args .window .now)))) k
+    ∙ read-bytes (s .args .t .now) (s .args .rec .now) (s .args .register .now) (s .args .spot .accepted) (s .pre .0) (s .args .window .now) from (s .args .body) (s .args .spot .at) (r .result) (r .ensures .0) f in
     record {
-      taken = subst (λ (k : ℕ). refusal (netIn (s .args .t .now)) (wordsOf (s .args .register .now)) 0 (s .args .spot .accepted) (record { act = e .activity; objs = take k (e .objects) }) ≡ 0) (sym (c .wide .ensures)) (h .taken);
+      taken = subst (λ (os : List ℕ). refusal (netIn (s .args .t .now)) (wordsOf (s .args .register .now)) 0 (s .args .spot .accepted) (record { act = e .activity; objs = os }) ≡ 0) (sym b) (h .taken);
       room = event-room (s .args .t .now) (s .args .rec .now) (s .args .register .now) (s .args .spot .accepted) (s .pre .0) (record { act = e .activity; objs = take (e .count) (e .objects) }) (h .taken);
-      few = omega (arith, h .few, c .wide .ensures);
-      eight = ap (λ (a : Answer). length (a .event .objects)) (r .ensures .0) ∙ read-eight (netIn (s .args .t .now)) (wordsOf (s .args .register .now)) (s .args .spot .accepted) w 0 (s .args .body) (s .args .spot .at);
-      there = omega (arith, h .there, c .wide .ensures, length-take n (drop (s .args .spot .from) (s .args .window .now)), length-drop (s .args .spot .from) (s .args .window .now), s .pre .1);
+      there = omega (arith, h .there, c .wide .ensures, length-take n (drop from (s .args .window .now)), length-drop from (s .args .window .now), s .pre .1);
     }
 
 sub-read-window : tie.Need-sub-read-window
@@ -73,28 +82,31 @@ enum-told-2 c = search needs
 wide-requires : tie.Need-wide-requires
 wide-requires c κs = search needs
 
-array-share-prefix-objects : tie.Need-array-share-prefix-objects
-array-share-prefix-objects c = let h = handed-at (c .before .before) in omega (arith, h .few, h .eight)
+add-first : tie.Need-add-first
+add-first c = search needs
 
-slice-aggregate-apply : tie.Need-slice-aggregate-apply
-slice-aggregate-apply c = let h = handed-at (c .before .before .before) in simp length-take (omega (arith, h .few, h .eight))
+mul-last : tie.Need-mul-last
+mul-last c = search needs
+
+add-last : tie.Need-add-last
+add-last c = search needs
+
+sub-apply : tie.Need-sub-apply
+sub-apply c = search needs
+
+part-apply-start : tie.Need-part-apply-start
+part-apply-start c = search needs
+
+part-apply-end : tie.Need-part-apply-end
+part-apply-end c = omega (arith, handed-at (c .before) .there)
 
 apply-requires : tie.Need-apply-requires
 apply-requires c κs =
-    let s = c .before .before .before .before .before .before .before .before .before .before .before .before .before in
-    (s .pre .0 .ready, event-code (s .args .t .now) (s .args .rec .now) (s .args .register .now) (s .args .spot .accepted) (s .pre .0) _ (handed-at (c .before .before .before) .taken))
-
-add-t28 : tie.Need-add-t28
-add-t28 c = search needs
-
-mul-t29 : tie.Need-mul-t29
-mul-t29 c = search needs
-
-add-t30 : tie.Need-add-t30
-add-t30 c = search needs
+    let s = c .before .before .before .before .before .before .before .before .before .before .before .before in
+    (s .pre .0 .ready, event-code (s .args .t .now) (s .args .rec .now) (s .args .register .now) (s .args .spot .accepted) (s .pre .0) (event-at (c .before .before)) (handed-at (c .before .before) .taken))
 
 add-t31 : tie.Need-add-t31
-add-t31 c = omega (arith, handed-at (c .before .before .before .before .before .before) .room)
+add-t31 c = omega (arith, handed-at (c .before .before .before .before .before) .room)
 
 returns : tie.Need-returns
 returns c =
@@ -111,10 +123,10 @@ same-length c = search needs
 
 returns-3 : tie.Need-returns-3
 returns-3 c =
-    let s = c .before .before .before .before .before .before .before .before .before .before .before .before .before .before .before .before in
-    let h = handed-at (c .before .before .before .before .before .before) in (
+    let s = c .before .before .before .before .before .before .before .before .before .before .before .before .before .before .before in
+    let h = handed-at (c .before .before .before .before .before) in (
       subst (λ (b : List ℕ). Follows (s .args .t .now) b (s .args .register .now) (s .args .spot .accepted + 1)) (sym (c .before .before .apply .ensures))
-          (event-follows (s .args .t .now) (s .args .rec .now) (s .args .register .now) (s .args .spot .accepted) (s .pre .0) _ (h .taken)),
+          (event-follows (s .args .t .now) (s .args .rec .now) (s .args .register .now) (s .args .spot .accepted) (s .pre .0) (event-at (c .before .before .before .before .before)) (h .taken)),
       record { inside = h .there; more = λ f. omega arith },
     )
 
@@ -132,12 +144,13 @@ step-spec =
     stopped-requires-2
     enum-told-2
     wide-requires
-    array-share-prefix-objects
-    slice-aggregate-apply
+    add-first
+    mul-last
+    add-last
+    sub-apply
+    part-apply-start
+    part-apply-end
     apply-requires
-    add-t28
-    mul-t29
-    add-t30
     add-t31
     returns
     returns-2
