@@ -1,4 +1,5 @@
 // An event on a trail in lent bytes: refused with the first number from 21 to 27 that applies, or carried out in place.
+// Its objects are bytes too, four a number, as a trail file and the client have them.
 
 use moves::add;
 use moves::add_one;
@@ -61,13 +62,13 @@ fn test_objects(
     t: &[u32; 1684],
     lay: Layout,
     act: usize,
-    objs: &[u32],
+    objs: &[u8],
     kinds: &mut [u32; 8],
 ) -> EventAnswer
-    requires { ⌜ Counted (now t) (now rec) lay act (now objs) ⌝ }
+    requires { ⌜ Counted (now t) (now rec) lay act (wordsOf (now objs)) ⌝ }
     requires { ⌜ length (now kinds) ≡ 8 ⌝ }
-    ensures code { λ r. ⌜ eventCode r ≡ first (objectTests (netIn (now (t .entry))) (stateAt (now (rec .entry)) .kinds) act (now (objs .entry))) ⌝ }
-    ensures kinds { λ r. ⌜ (eventCode r ≡ 0 → Kinds (now (rec .entry)) (now (objs .entry)) (now (kinds .exit))) ⌝ }
+    ensures code { λ r. ⌜ eventCode r ≡ first (objectTests (netIn (now (t .entry))) (stateAt (now (rec .entry)) .kinds) act (wordsOf (now (objs .entry)))) ⌝ }
+    ensures kinds { λ r. ⌜ (eventCode r ≡ 0 → Kinds (now (rec .entry)) (wordsOf (now (objs .entry))) (now (kinds .exit))) ⌝ }
 {
     let from = 4 * lay.register;
     let to = 4 * lay.positions;
@@ -80,14 +81,14 @@ fn refuse(
     t: &[u32; 1684],
     lay: Layout,
     act: usize,
-    objs: &[u32],
+    objs: &[u8],
     kinds: &mut [u32; 8],
 ) -> EventAnswer
     requires { ⌜ Ready (now t) (now rec) ⌝ }
     requires { ⌜ lay ≡ layoutOf (netIn (now t)) (now rec) ⌝ }
     requires { ⌜ length (now kinds) ≡ 8 ⌝ }
-    ensures code { λ r. ⌜ eventCode r ≡ answerS (netIn (now (t .entry))) (stateAt (now (rec .entry))) (askEvent act (now (objs .entry))) ⌝ }
-    ensures kinds { λ r. ⌜ (eventCode r ≡ 0 → Kinds (now (rec .entry)) (now (objs .entry)) (now (kinds .exit))) ⌝ }
+    ensures code { λ r. ⌜ eventCode r ≡ answerS (netIn (now (t .entry))) (stateAt (now (rec .entry))) (askEvent act (wordsOf (now (objs .entry)))) ⌝ }
+    ensures kinds { λ r. ⌜ (eventCode r ≡ 0 → Kinds (now (rec .entry)) (wordsOf (now (objs .entry))) (now (kinds .exit))) ⌝ }
 {
     if words::get_word(rec, lay.counts) != 0 {
         return EventAnswer::Closed;
@@ -98,21 +99,22 @@ fn refuse(
     if net::look::acts(t) <= act {
         return EventAnswer::Activity;
     }
-    if objs.len() != net::look::arcs(t, act) {
+    if objs.len() / 4 != net::look::arcs(t, act) {
         return EventAnswer::Number;
     }
     test_objects(rec, t, lay, act, objs, kinds)
 }
 
 // The kinds of known objects, by the register's bytes.
-fn read_kinds(register: &[u8], objs: &[u32], kinds: &mut [u32; 8])
-    requires { ⌜ All (λ (o : ℕ). o < length (wordsOf (now register))) (now objs) ⌝ }
-    requires { ⌜ (length (now objs) ≤ 8) × (length (now kinds) ≡ 8) ⌝ }
-    ensures { λ _. ⌜ take (length (now (objs .entry))) (now (kinds .exit)) ≡ kindsOf (wordsOf (now (register .entry))) (now (objs .entry)) ⌝ }
+fn read_kinds(register: &[u8], objs: &[u8], kinds: &mut [u32; 8])
+    requires { ⌜ All (λ (o : ℕ). o < length (wordsOf (now register))) (wordsOf (now objs)) ⌝ }
+    requires { ⌜ (length (wordsOf (now objs)) ≤ 8) × (length (now kinds) ≡ 8) ⌝ }
+    ensures { λ _. ⌜ take (length (wordsOf (now (objs .entry)))) (now (kinds .exit)) ≡ kindsOf (wordsOf (now (register .entry))) (wordsOf (now (objs .entry))) ⌝ }
 {
+    let n = objs.len() / 4;
     let mut i = 0;
-    while i < objs.len() {
-        kinds[i] = words::get_word(register, words::wide(objs[i]));
+    while i < n {
+        kinds[i] = words::get_word(register, words::wide(words::get_word(objs, i)));
         i += 1;
     }
 }
@@ -123,17 +125,18 @@ fn step_objects(
     t: &[u32; 1684],
     lay: Layout,
     act: usize,
-    objs: &[u32],
+    objs: &[u8],
     kinds: &[u32; 8],
 )
-    requires { ⌜ Moving (now t) (now rec) lay act (now objs) ⌝ }
-    requires { ⌜ Kinds (now rec) (now objs) (now kinds) ⌝ }
-    ensures { λ _. ⌜ wordsOf (now (rec .exit)) ≡ numbersOf (tableIn (now (rec .entry))) (movedState (netIn (now (t .entry))) (stateAt (now (rec .entry))) act (now (objs .entry))) ⌝ }
+    requires { ⌜ Moving (now t) (now rec) lay act (wordsOf (now objs)) ⌝ }
+    requires { ⌜ Kinds (now rec) (wordsOf (now objs)) (now kinds) ⌝ }
+    ensures { λ _. ⌜ wordsOf (now (rec .exit)) ≡ numbersOf (tableIn (now (rec .entry))) (movedState (netIn (now (t .entry))) (stateAt (now (rec .entry))) act (wordsOf (now (objs .entry)))) ⌝ }
 {
+    let n = objs.len() / 4;
     let mut done = 0;
     let mut jumps = 0u32;
-    while done < objs.len() {
-        let o = words::wide(objs[done]);
+    while done < n {
+        let o = words::wide(words::get_word(objs, done));
         let k = words::wide(kinds[done]);
         let inp = net::look::input(t, act, k);
         let out = net::look::output(t, act, k) as u32;
@@ -149,12 +152,12 @@ fn take_event(
     t: &[u32; 1684],
     lay: Layout,
     act: usize,
-    objs: &[u32],
+    objs: &[u8],
     kinds: &[u32; 8],
 )
-    requires { ⌜ Moving (now t) (now rec) lay act (now objs) ⌝ }
-    requires { ⌜ Kinds (now rec) (now objs) (now kinds) ⌝ }
-    ensures { λ _. ⌜ wordsOf (now (rec .exit)) ≡ numbersOf (tableIn (now (rec .entry))) (afterEvent (netIn (now (t .entry))) (stateAt (now (rec .entry))) (record { act = act; objs = now (objs .entry) })) ⌝ }
+    requires { ⌜ Moving (now t) (now rec) lay act (wordsOf (now objs)) ⌝ }
+    requires { ⌜ Kinds (now rec) (wordsOf (now objs)) (now kinds) ⌝ }
+    ensures { λ _. ⌜ wordsOf (now (rec .exit)) ≡ numbersOf (tableIn (now (rec .entry))) (afterEvent (netIn (now (t .entry))) (stateAt (now (rec .entry))) (record { act = act; objs = wordsOf (now (objs .entry)) })) ⌝ }
 {
     step_objects(rec, t, lay, act, objs, kinds);
     add_one(rec, lay.counts + 1);
@@ -162,10 +165,10 @@ fn take_event(
 }
 
 // Carries out an event to which none of 21 to 27 applies, as the caller has found; it is not tested again.
-pub fn apply(rec: &mut [u8], t: &[u32; 1684], act: u32, objs: &[u32])
+pub fn apply(rec: &mut [u8], t: &[u32; 1684], act: u32, objs: &[u8])
     requires { ⌜ Ready (now t) (now rec) ⌝ }
-    requires { ⌜ askCode (now rec) (askEvent act (now objs)) ≡ 0 ⌝ }
-    ensures { λ _. ⌜ now (rec .exit) ≡ askBytes (now (rec .entry)) (askEvent act (now (objs .entry))) ⌝ }
+    requires { ⌜ askCode (now rec) (askEvent act (wordsOf (now objs))) ≡ 0 ⌝ }
+    ensures { λ _. ⌜ now (rec .exit) ≡ askBytes (now (rec .entry)) (askEvent act (wordsOf (now (objs .entry)))) ⌝ }
 {
     let lay = read_layout(rec, t);
     let from = 4 * lay.register;
@@ -176,9 +179,9 @@ pub fn apply(rec: &mut [u8], t: &[u32; 1684], act: u32, objs: &[u32])
 }
 
 // Puts an event to a trail: it is refused and nothing changes, or it is carried out in the record's bytes.
-pub fn event(rec: &mut [u8], t: &[u32; 1684], act: u32, objs: &[u32]) -> EventAnswer
+pub fn event(rec: &mut [u8], t: &[u32; 1684], act: u32, objs: &[u8]) -> EventAnswer
     requires { ⌜ Ready (now t) (now rec) ⌝ }
-    ensures { λ r. ⌜ (eventCode r ≡ askCode (now (rec .entry)) (askEvent act (now (objs .entry)))) × (now (rec .exit) ≡ askBytes (now (rec .entry)) (askEvent act (now (objs .entry)))) ⌝ }
+    ensures { λ r. ⌜ (eventCode r ≡ askCode (now (rec .entry)) (askEvent act (wordsOf (now (objs .entry))))) × (now (rec .exit) ≡ askBytes (now (rec .entry)) (askEvent act (wordsOf (now (objs .entry))))) ⌝ }
 {
     let lay = read_layout(rec, t);
     let mut kinds = [0u32; 8];

@@ -29,9 +29,9 @@ fn kind_code(t: &[u32; 1684], act: usize, k: usize, before: u32) -> u32
     before
 }
 
-// 25, 26 or 0, by the objects: 25 of any of them before 26 of any. Where it is 0, their kinds are put into `kinds`.
+// 25, 26 or 0, by the objects, four bytes each: 25 of any of them before 26 of any. Where it is 0, their kinds are put into `kinds`.
 fn take_kinds(
-    objs: &[u32],
+    objs: &[u8],
     act: usize,
     register: &[u8],
     t: &[u32; 1684],
@@ -39,15 +39,16 @@ fn take_kinds(
 ) -> u32
     requires { ⌜ Held (now t) ⌝ }
     requires { ⌜ KnownKinds (netIn (now t)) (wordsOf (now register)) ⌝ }
-    requires { ⌜ (length (now objs) ≤ 8) × (act < netIn (now t) .acts) ⌝ }
-    ensures code { λ r. ⌜ r ≡ first (take 2 (objectTests (netIn (now (t .entry))) (wordsOf (now (register .entry))) act (now (objs .entry)))) ⌝ }
-    ensures kinds { λ r. ⌜ (r ≡ 0 → now (kinds .exit) ≡ sets (now (kinds .entry)) 0 (kindsOf (wordsOf (now (register .entry))) (now (objs .entry)))) ⌝ }
+    requires { ⌜ (length (wordsOf (now objs)) ≤ 8) × (act < netIn (now t) .acts) ⌝ }
+    ensures code { λ r. ⌜ r ≡ first (take 2 (objectTests (netIn (now (t .entry))) (wordsOf (now (register .entry))) act (wordsOf (now (objs .entry))))) ⌝ }
+    ensures kinds { λ r. ⌜ (r ≡ 0 → now (kinds .exit) ≡ sets (now (kinds .entry)) 0 (kindsOf (wordsOf (now (register .entry))) (wordsOf (now (objs .entry))))) ⌝ }
 {
     let size = register.len() / 4;
+    let n = objs.len() / 4;
     let mut code = 0;
     let mut i: usize = 0;
-    while i < objs.len() {
-        let o = wide(objs[i]);
+    while i < n {
+        let o = wide(get_word(objs, i));
         if size <= o {
             return 25;
         }
@@ -59,9 +60,9 @@ fn take_kinds(
     code
 }
 
-// 25, 26, 27 or 0, by an event's objects and the register. Where it is 0, `kinds` begins with the objects' kinds.
+// 25, 26, 27 or 0, by an event's objects and the register, four bytes each. Where it is 0, `kinds` begins with the objects' kinds.
 pub fn refuse_objects(
-    objs: &[u32],
+    objs: &[u8],
     act: usize,
     register: &[u8],
     t: &[u32; 1684],
@@ -69,15 +70,15 @@ pub fn refuse_objects(
 ) -> u32
     requires { ⌜ Held (now t) ⌝ }
     requires { ⌜ KnownKinds (netIn (now t)) (wordsOf (now register)) ⌝ }
-    requires { ⌜ (length (now objs) ≤ 8) × (act < netIn (now t) .acts) × (length (now kinds) ≡ 8) ⌝ }
-    ensures code { λ r. ⌜ r ≡ first (objectTests (netIn (now (t .entry))) (wordsOf (now (register .entry))) act (now (objs .entry))) ⌝ }
-    ensures kinds { λ r. ⌜ (r ≡ 0 → take (length (now (objs .entry))) (now (kinds .exit)) ≡ kindsOf (wordsOf (now (register .entry))) (now (objs .entry))) ⌝ }
+    requires { ⌜ (length (wordsOf (now objs)) ≤ 8) × (act < netIn (now t) .acts) × (length (now kinds) ≡ 8) ⌝ }
+    ensures code { λ r. ⌜ r ≡ first (objectTests (netIn (now (t .entry))) (wordsOf (now (register .entry))) act (wordsOf (now (objs .entry)))) ⌝ }
+    ensures kinds { λ r. ⌜ (r ≡ 0 → take (length (wordsOf (now (objs .entry)))) (now (kinds .exit)) ≡ kindsOf (wordsOf (now (register .entry))) (wordsOf (now (objs .entry)))) ⌝ }
 {
     let code = take_kinds(objs, act, register, t, kinds);
     if code != 0 {
         return code;
     }
-    if two_of_kind(kinds, objs.len()) {
+    if two_of_kind(kinds, objs.len() / 4) {
         return 27;
     }
     0

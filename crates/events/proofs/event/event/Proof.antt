@@ -5,6 +5,7 @@ use mathlib.Core.List.{List, [], _∷_}
 use native.Mathlib.Omega.{arith}
 use types.Run.{OneOf}
 use mathlib.Core.Logic.{⊎-elim}
+use Rattle.words.specs.Words.{wordsOf}
 use Rattle.words.specs.Lists.{All}
 use denote.Enum.Declared.{tagOf}
 use Rattle.replay.specs.Calls.{askCode}
@@ -55,7 +56,7 @@ same-length : tie.Need-same-length
 same-length c = search needs
 
 returns : tie.Need-returns
-returns c = let s = c .before .before .before .before .before .before .before .before .before .before .before .before .before .before in let q = askEvent (s .args .act) (s .args .objs .now) in
+returns c = let s = c .before .before .before .before .before .before .before .before .before .before .before .before .before .before in let q = askEvent (s .args .act) (wordsOf (s .args .objs .now)) in
     let z : askCode (s .args .rec .now) q ≡ 0 = sym (code-is _ _ (s .pre) q) ∙ sym (c .before .before .before .before .before .before .before .refuse .ensures .0) ∙ told (c .before .before .before .before .before) in
     (sym z, bytes-taken _ _ (s .pre) q _ z (ready-bytes _ _ (s .pre) _ _ (c .before .before .take-event .ensures) (omega arith) (λ i. omega (arith, c .before .before .before .before .before .before .before .before .before .before .before .before .before .slice-known .given i)) (λ i. omega (arith, c .slice-known2 .given i))))
 
@@ -63,7 +64,7 @@ same-length-2 : tie.Need-same-length-2
 same-length-2 c = search needs
 
 returns-2 : tie.Need-returns-2
-returns-2 c = let s = c .before .before .before .before .before .before .before .before in let q = askEvent (s .args .act) (s .args .objs .now) in
+returns-2 c = let s = c .before .before .before .before .before .before .before .before in let q = askEvent (s .args .act) (wordsOf (s .args .objs .now)) in
     let e : eventCode (c .before .refuse .result) ≡ askCode (s .args .rec .now) q = c .before .refuse .ensures .0 ∙ code-is _ _ (s .pre) q in
     (e, bytes-refused _ _ (s .pre) q (λ z. not-taken (c .before .refuse .result) (c .match .keys2) (e ∙ z)))
 

@@ -5,6 +5,8 @@ use native.Mathlib.Omega.{arith}
 use lib.ListN.{length}
 use lib.Dec.{leb, eqb}
 use borrow.Author.Tests.{le-leb, lt-leb, ne-eqb}
+use Rattle.words.specs.Words.{wordsOf}
+use Rattle.words.proofs.Words.{length-words}
 use Rattle.words.proofs.Lists.{not-eqb}
 use Rattle.net.specs.Held.{netIn}
 use Rattle.replay.specs.Calls.{stateAt}
@@ -29,8 +31,8 @@ t2 c = lt-leb _ _ (rw (events (c .before)) at (c .if2 .left))
 t3 : (c : tie.Else3) → leb (netIn (c .before .before .before .before .before .before .before .before .before .args .t .now) .acts) (c .before .before .before .before .before .before .before .before .before .args .act) ≡ false
 t3 c = lt-leb _ _ (rw (c .before .acts .ensures) at (c .if3 .left))
 
-t4 : (c : tie.Else4) → not (eqb (length (c .before .before .before .before .before .before .before .before .before .before .before .args .objs .now)) (length (netIn (c .before .before .before .before .before .before .before .before .before .before .before .args .t .now) .arcs (c .before .before .before .before .before .before .before .before .before .before .before .args .act)))) ≡ false
-t4 c = not-eqb _ _ (c .if4 .left ∙ c .before .arcs .ensures)
+t4 : (c : tie.Else4) → not (eqb (length (wordsOf (c .before .before .before .before .before .before .before .before .before .before .before .args .objs .now))) (length (netIn (c .before .before .before .before .before .before .before .before .before .before .before .args .t .now) .arcs (c .before .before .before .before .before .before .before .before .before .before .before .args .act)))) ≡ false
+t4 c = not-eqb _ _ (length-words (c .before .before .before .before .before .before .before .before .before .before .before .args .objs .now) ∙ c .if4 .left ∙ c .before .arcs .ensures)
 
 get-word-requires : tie.Need-get-word-requires
 get-word-requires c κs = let s = c .before .before in closed-in _ _ _ (s .pre .0) (s .pre .1 .0)
@@ -57,10 +59,10 @@ arcs-requires : tie.Need-arcs-requires
 arcs-requires c κs = let s = c .before .before .before .before .before .before .before .before .before in (s .pre .0 .held, rw (c .before .acts .ensures) at (c .if3 .left))
 
 returns-4 : tie.Need-returns-4
-returns-4 c = (rw (t1 (c .before .before .before .before .before .before .before), t2 (c .before .before .before .before), t3 (c .before .before), ap not (ne-eqb _ _ (rw (c .before .arcs .ensures) at (c .if4 .taken)))) refl, λ z. absurd (omega arith))
+returns-4 c = let s = c .before .before .before .before .before .before .before .before .before .before .before in (rw (t1 (c .before .before .before .before .before .before .before), t2 (c .before .before .before .before), t3 (c .before .before), ap not (ne-eqb (length (wordsOf (s .args .objs .now))) _ (λ q. c .if4 .taken (sym (length-words (s .args .objs .now)) ∙ q ∙ sym (c .before .arcs .ensures))))) refl, λ z. absurd (omega arith))
 
 test-objects-requires : tie.Need-test-objects-requires
-test-objects-requires c κs = let s = c .before .before .before .before .before .before .before .before .before .before .before .before in (record { ready = s .pre .0; lay = s .pre .1 .0; act-in = rw (c .before .before .before .before .acts .ensures) at (c .before .before .before .if3 .left); size = c .before .if4 .left ∙ c .before .before .arcs .ensures }, s .pre .1 .1)
+test-objects-requires c κs = let s = c .before .before .before .before .before .before .before .before .before .before .before .before in (record { ready = s .pre .0; lay = s .pre .1 .0; act-in = rw (c .before .before .before .before .acts .ensures) at (c .before .before .before .if3 .left); size = length-words (s .args .objs .now) ∙ c .before .if4 .left ∙ c .before .before .arcs .ensures }, s .pre .1 .1)
 
 returns-5 : tie.Need-returns-5
 returns-5 c = (rw (t1 (c .before .before .before .before .before .before .before .before .before), t2 (c .before .before .before .before .before .before), t3 (c .before .before .before .before), t4 (c .before .before)) (c .test-objects .ensures .0), c .test-objects .ensures .1)

@@ -3,6 +3,7 @@ use Prim.Native.Nat.{ℕ}
 use mathlib.Core.Path.{_≡_, ap, sym, _∙_}
 use mathlib.Core.List.{List}
 use native.Mathlib.Omega.{arith}
+use Rattle.words.specs.Words.{wordsOf}
 use Rattle.words.specs.Refusals.{first}
 use Rattle.net.specs.Held.{netIn}
 use Rattle.replay.specs.Plain.{kindsOf, objectTests}
@@ -30,16 +31,16 @@ refuse-objects-requires : tie.Need-refuse-objects-requires
 refuse-objects-requires c κs = let s = c .before .before .before .before .before .before in (s .pre .0 .ready .held, (register-known _ _ _ (s .pre .0 .ready) (s .pre .0 .lay), (few-objects _ _ _ _ _ (s .pre .0), s .pre .0 .act-in, s .pre .1)))
 
 -- the number found
-found : (c : tie.After-refuse-objects) → c .refuse-objects .result ≡ first (objectTests (netIn (c .before .before .before .before .before .before .before .args .t .now)) (stateAt (c .before .before .before .before .before .before .before .args .rec .now) .kinds) (c .before .before .before .before .before .before .before .args .act) (c .before .before .before .before .before .before .before .args .objs .now))
-found c = let s = c .before .before .before .before .before .before .before in c .refuse-objects .ensures .0 ∙ ap (λ (ks : List ℕ). first (objectTests (netIn (s .args .t .now)) ks (s .args .act) (s .args .objs .now))) (register-words _ _ _ (s .pre .0 .ready) (s .pre .0 .lay))
+found : (c : tie.After-refuse-objects) → c .refuse-objects .result ≡ first (objectTests (netIn (c .before .before .before .before .before .before .before .args .t .now)) (stateAt (c .before .before .before .before .before .before .before .args .rec .now) .kinds) (c .before .before .before .before .before .before .before .args .act) (wordsOf (c .before .before .before .before .before .before .before .args .objs .now)))
+found c = let s = c .before .before .before .before .before .before .before in c .refuse-objects .ensures .0 ∙ ap (λ (ks : List ℕ). first (objectTests (netIn (s .args .t .now)) ks (s .args .act) (wordsOf (s .args .objs .now)))) (register-words _ _ _ (s .pre .0 .ready) (s .pre .0 .lay))
 
 object-answer-requires : tie.Need-object-answer-requires
-object-answer-requires c κs = let a = c .before .before .before .before .before .before .before .args in rw (found c) (object-code (netIn (a .t .now)) (stateAt (a .rec .now) .kinds) (a .act) (a .objs .now))
+object-answer-requires c κs = let a = c .before .before .before .before .before .before .before .args in rw (found c) (object-code (netIn (a .t .now)) (stateAt (a .rec .now) .kinds) (a .act) (wordsOf (a .objs .now)))
 
 returns : tie.Need-returns
 returns c = let s = c .before .before .before .before .before .before .before .before in let e = c .object-answer .ensures in (
   e ∙ found (c .before),
-  λ z. c .before .refuse-objects .ensures .1 (sym e ∙ z) ∙ ap (λ (ks : List ℕ). kindsOf ks (s .args .objs .now)) (register-words _ _ _ (s .pre .0 .ready) (s .pre .0 .lay)),
+  λ z. c .before .refuse-objects .ensures .1 (sym e ∙ z) ∙ ap (λ (ks : List ℕ). kindsOf ks (wordsOf (s .args .objs .now))) (register-words _ _ _ (s .pre .0 .ready) (s .pre .0 .lay)),
 )
 
 pub test-objects-spec : {M : Type 1} → statement M

@@ -10,6 +10,7 @@ use Rattle.words.specs.Lists.{pick, twice}
 use Rattle.words.specs.Refusals.{first}
 use Rattle.words.specs.Words.{wordsOf}
 use Rattle.words.proofs.Refusals.{first-then, first-stays}
+use Rattle.words.proofs.Words.{length-words}
 use Rattle.net.specs.Held.{netIn}
 use Rattle.replay.specs.Plain.{kindsOf, objectTests}
 use Rattle.replay.proofs.ObjectLaws.{kinds-length, kinds-front}
@@ -18,34 +19,36 @@ use Rattle.replay.proofs.objects.refuse_objects.Statement.{statement}
 use Rattle.replay.proofs.objects.refuse_objects.Tie as tie
 
 -- the objects' kinds are stored
-stored : (c : tie.Else1) → c .before .take-kinds .last .1 .1 .1 .1 .0 ≡ sets (c .before .before .before .before .before .args .kinds .now) 0 (kindsOf (wordsOf (c .before .before .before .before .before .args .register .now)) (c .before .before .before .before .before .args .objs .now))
+stored : (c : tie.Else1) → c .before .take-kinds .last .1 .1 .1 .1 .0 ≡ sets (c .before .before .before .before .before .args .kinds .now) 0 (kindsOf (wordsOf (c .before .before .before .before .before .args .register .now)) (wordsOf (c .before .before .before .before .before .args .objs .now)))
 stored c = c .before .take-kinds .ensures .1 (c .if1 .left)
 
 size : (c : tie.Else1) → length (c .before .take-kinds .last .1 .1 .1 .1 .0) ≡ 8
 size c = let s = c .before .before .before .before .before in
-    kinds-length (wordsOf (s .args .register .now)) (s .args .objs .now) (s .args .kinds .now) _ (s .pre .1 .1 .2) (s .pre .1 .1 .0) (stored c)
+    kinds-length (wordsOf (s .args .register .now)) (wordsOf (s .args .objs .now)) (s .args .kinds .now) _ (s .pre .1 .1 .2) (s .pre .1 .1 .0) (stored c)
 
-front : (c : tie.Else1) → take (length (c .before .before .before .before .before .args .objs .now)) (c .before .take-kinds .last .1 .1 .1 .1 .0) ≡ kindsOf (wordsOf (c .before .before .before .before .before .args .register .now)) (c .before .before .before .before .before .args .objs .now)
+front : (c : tie.Else1) → take (length (wordsOf (c .before .before .before .before .before .args .objs .now))) (c .before .take-kinds .last .1 .1 .1 .1 .0) ≡ kindsOf (wordsOf (c .before .before .before .before .before .args .register .now)) (wordsOf (c .before .before .before .before .before .args .objs .now))
 front c = let s = c .before .before .before .before .before in
-    kinds-front (wordsOf (s .args .register .now)) (s .args .objs .now) (s .args .kinds .now) _ (s .pre .1 .1 .2) (s .pre .1 .1 .0) (stored c)
+    kinds-front (wordsOf (s .args .register .now)) (wordsOf (s .args .objs .now)) (s .args .kinds .now) _ (s .pre .1 .1 .2) (s .pre .1 .1 .0) (stored c)
 
 -- neither 25 nor 26 applies: 27 decides
-last : (c : tie.After-two-of-kind) → pick {A = ℕ} (c .two-of-kind .result) 27 0 ≡ first (objectTests (netIn (c .before .before .before .before .before .before .before .args .t .now)) (wordsOf (c .before .before .before .before .before .before .before .args .register .now)) (c .before .before .before .before .before .before .before .args .act) (c .before .before .before .before .before .before .before .args .objs .now))
+last : (c : tie.After-two-of-kind) → pick {A = ℕ} (c .two-of-kind .result) 27 0 ≡ first (objectTests (netIn (c .before .before .before .before .before .before .before .args .t .now)) (wordsOf (c .before .before .before .before .before .before .before .args .register .now)) (c .before .before .before .before .before .before .before .args .act) (wordsOf (c .before .before .before .before .before .before .before .args .objs .now)))
 last c =
     let a = c .before .before .before .before .before .before .before .args in
     let ks : List ℕ = wordsOf (a .register .now) in
-    ap (λ (b : Bool). pick {A = ℕ} b 27 0) (c .two-of-kind .ensures ∙ ap twice (front (c .before .before)))
-    ∙ sym (first-then (take 2 (objectTests (netIn (a .t .now)) ks (a .act) (a .objs .now))) ((twice (kindsOf ks (a .objs .now)), 27) ∷ []) (sym (c .before .before .before .take-kinds .ensures .0) ∙ c .before .before .if1 .left) (omega arith))
+    ap (λ (b : Bool). pick {A = ℕ} b 27 0) (c .two-of-kind .ensures ∙ ap (λ (n : ℕ). twice (take n (c .before .before .before .take-kinds .last .1 .1 .1 .1 .0))) (sym (length-words (a .objs .now))) ∙ ap twice (front (c .before .before)))
+    ∙ sym (first-then (take 2 (objectTests (netIn (a .t .now)) ks (a .act) (wordsOf (a .objs .now)))) ((twice (kindsOf ks (wordsOf (a .objs .now))), 27) ∷ []) (sym (c .before .before .before .take-kinds .ensures .0) ∙ c .before .before .if1 .left) (omega arith))
 
 take-kinds-requires : tie.Need-take-kinds-requires
 take-kinds-requires c κs = search needs
 
 returns : tie.Need-returns
 returns c = let a = c .before .before .before .before .before .args in
-    (c .before .take-kinds .ensures .0 ∙ sym (first-stays (take 2 (objectTests (netIn (a .t .now)) (wordsOf (a .register .now)) (a .act) (a .objs .now))) ((twice (kindsOf (wordsOf (a .register .now)) (a .objs .now)), 27) ∷ []) (λ z. c .if1 .taken (c .before .take-kinds .ensures .0 ∙ z))), λ z. absurd (c .if1 .taken z))
+    (c .before .take-kinds .ensures .0 ∙ sym (first-stays (take 2 (objectTests (netIn (a .t .now)) (wordsOf (a .register .now)) (a .act) (wordsOf (a .objs .now)))) ((twice (kindsOf (wordsOf (a .register .now)) (wordsOf (a .objs .now))), 27) ∷ []) (λ z. c .if1 .taken (c .before .take-kinds .ensures .0 ∙ z))), λ z. absurd (c .if1 .taken z))
 
 two-of-kind-requires : tie.Need-two-of-kind-requires
-two-of-kind-requires c κs = let s = c .before .before .before .before .before .before in (s .pre .1 .1 .0, omega (arith, size (c .before), s .pre .1 .1 .0))
+two-of-kind-requires c κs = let s = c .before .before .before .before .before .before in
+    let e = length-words (s .args .objs .now) in
+    (omega (arith, e, s .pre .1 .1 .0), omega (arith, e, size (c .before), s .pre .1 .1 .0))
 
 returns-2 : tie.Need-returns-2
 returns-2 c = (rw (c .if2 .taken) at (last (c .before)), λ z. absurd (omega arith))
