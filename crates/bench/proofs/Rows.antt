@@ -1,37 +1,32 @@
 -- The rows of a trail file's events body, and events one after the other. Assumes nothing.
 use Prim.Native.Nat.{ℕ, zero, suc, _+_, _-_, _*_, _≤_, _<_}
-use mathlib.Core.Path.{_≡_, refl, ap, ap₂, sym, subst, _∙_}
+use mathlib.Core.Path.{_≡_, refl, ap, ap₂, sym, _∙_}
 use mathlib.Core.List.{List, [], _∷_}
 use native.Mathlib.Omega.{arith}
-use native.Mathlib.Decide.{decLe}
 use native.Mathlib.Nat.{sub-zero, zero-add, add-zero}
-use lib.ListN.{length, getD, take, drop, length-take, length-drop}
-use lib.Seq.{getD-take, getD-drop, drop-drop, ext-getD, length-take-le}
-use borrow.Author.Tests.{le-leb, lt-leb, leb-false, eq-eqb, ne-eqb}
+use lib.ListN.{length, getD, take, drop, length-drop}
+use lib.Seq.{getD-drop, drop-drop}
+use borrow.Author.Tests.{le-leb, lt-leb, eq-eqb, ne-eqb}
 use Rattle.words.specs.Words.{wordsOf}
-use Rattle.words.proofs.Lists.{is-eq}
-use Rattle.words.proofs.Refusals.{none-apply}
-use Rattle.net.specs.Net.{Loaded}
-use Rattle.replay.specs.Plain.{Ask, eventTests}
-use Rattle.replay.specs.Calls.{netAt, stateAt, askCode, askBytes}
+use Rattle.words.proofs.Words.{words-take, words-drop}
+use Rattle.replay.specs.Plain.{Ask}
+use Rattle.replay.specs.Calls.{askCode, askBytes}
 use Rattle.replay.specs.Ready.{Ready}
-use Rattle.replay.proofs.RecordLaws.{ready-loaded}
-use Rattle.events.specs.Answers.{askEvent}
 use Rattle.replay.proofs.Calls.{ready-asked}
+use Rattle.events.specs.Answers.{askEvent}
 use Rattle.bench.specs.Bench.{rowSize, rowAt, rowsOf, eventsIn, accepted, carried}
 
--- n numbers that are kept one by one are the front of the list
-pub front : (xs ys : List ℕ) (n : ℕ) → n ≤ length xs → n ≤ length ys → ((k : ℕ) → k < n → getD xs k 0 ≡ getD ys k 0) → take n xs ≡ take n ys
-front xs ys n hx hy f =
-    let l : length (take n xs) ≡ n = length-take-le n xs hx in
-    ext-getD 0 (take n xs) (take n ys) (l ∙ sym (length-take-le n ys hy)) (λ k h. getD-take n xs k 0 (omega arith) ∙ f k (omega arith) ∙ sym (getD-take n ys k 0 (omega arith)))
+-- the bytes of the objects of the row at number `at`, and its event
+module _ (s : List ℕ) (at n : ℕ) where
+  objects-are : wordsOf (take (4 * (at + 2) + 4 * n - 4 * (at + 2)) (drop (4 * (at + 2)) s)) ≡ take n (drop (at + 2) (wordsOf s))
+  objects-are =
+      let k : 4 * (at + 2) + 4 * n - 4 * (at + 2) ≡ 4 * n = omega arith in
+      rw k (words-take n (drop (4 * (at + 2)) s) ∙ ap (take n) (words-drop (at + 2) s))
 
--- the objects of the row at number `at`, and its event
-pub objects-size : (ws : List ℕ) (at n : ℕ) → at + (2 + n) ≤ length ws → n ≡ length (take n (drop (at + 2) ws))
-objects-size ws at n h = sym (length-take-le n (drop (at + 2) ws) (simp length-drop (omega arith)))
-
-pub row-is : (ws : List ℕ) (at a n : ℕ) (os : List ℕ) → a ≡ getD ws at 0 → n ≡ getD (drop at ws) 1 0 → os ≡ take n (drop (at + 2) ws) → askEvent a os ≡ rowAt (drop at ws)
-row-is ws at a n os e f g = ap₂ askEvent (e ∙ sym (getD-drop at ws 0 0 ∙ rw add-zero)) (g ∙ ap₂ take f (sym (drop-drop 2 at ws)))
+  pub row-is : (a : ℕ) → a ≡ getD (wordsOf s) at 0 → n ≡ getD (drop at (wordsOf s)) 1 0
+      → askEvent a (wordsOf (take (4 * (at + 2) + 4 * n - 4 * (at + 2)) (drop (4 * (at + 2)) s))) ≡ rowAt (drop at (wordsOf s))
+  row-is a e f =
+      ap₂ askEvent (e ∙ sym (getD-drop at (wordsOf s) 0 0 ∙ rw add-zero)) (objects-are ∙ ap₂ take f (sym (drop-drop 2 at (wordsOf s))))
 
 -- a row that is cut off, and a whole one
 module _ (ws : List ℕ) where
@@ -53,14 +48,6 @@ module _ (b : List ℕ) (q : Ask) (qs : List Ask) where
   one-accepted : askCode b q ≡ 0 → (accepted b (q ∷ qs) ≡ 1 + accepted (askBytes b q) qs) × (carried b (q ∷ qs) ≡ carried (askBytes b q) qs)
   unfolding accepted carried
   one-accepted z = (rw (eq-eqb (askCode b q) 0 z), rw (eq-eqb (askCode b q) 0 z))
-
--- an event with over eight objects is refused
-many-refused : (w b : List ℕ) → Ready w b → (a : ℕ) (os : List ℕ) → 8 < length os → askCode b (askEvent a os) ≡ 0 → ⊥
-unfolding askCode
-many-refused w b R a os h z =
-    let L : Loaded (netAt b) = subst Loaded (R .net) (ready-loaded w b R) in
-    let n = none-apply (eventTests (netAt b) (stateAt b .kinds) (stateAt b .closed) (stateAt b .events) (record { act = a; objs = os })) (omega arith) z in
-    omega (arith, L .arcs-le a (leb-false (netAt b .acts) a (n .1 .1 .0)), is-eq (length os) (length (netAt b .arcs a)) (n .1 .1 .1 .0))
 
 -- n events of the body s are accepted and the trail b₀ has become b: what is left is the rows from number `at` on
 pub record Left (t b₀ s b : List ℕ) (at n : ℕ) : Type 0 where
@@ -124,11 +111,3 @@ module _ (t b₀ s b : List ℕ) (at n : ℕ) (L : Left t b₀ s b at n) where
             count = omega (arith, L .count, ap (accepted b) whole, e .0);
             bytes = sym (ap (carried b) whole ∙ e .1) ∙ L .bytes;
           })
-
-  -- it has over eight objects, whole or not
-  pub left-many : 8 < getD rest 1 0 → (n ≡ accepted b₀ (eventsIn s)) × (b ≡ carried b₀ (eventsIn s))
-  left-many h = go (decLe (at + rowSize rest) (length (wordsOf s)))
-    where
-      go : Dec (at + rowSize rest ≤ length (wordsOf s)) → (n ≡ accepted b₀ (eventsIn s)) × (b ≡ carried b₀ (eventsIn s))
-      go (yes w) = refused-all w (many-refused t b (L .ready) (getD rest 0 0) (take (getD rest 1 0) (drop 2 rest)) (simp (length-take, length-drop) (omega arith)))
-      go (no m) = left-cut (omega arith)

@@ -5,11 +5,11 @@ use answers::event_code;
 use answers::pack;
 use answers::saved_code;
 use answers::start_code;
-use lent::objects::count_objects;
-use lent::objects::object_at;
+use lent::objects::whole_rows;
 ghost use mathlib.Core.Path.{_≡_};
 ghost use Prim.Native.Nat.{_≤_};
 ghost use lib.ListN.{length};
+ghost use Rattle.words.specs.Words.{wordsOf};
 ghost use Rattle.replay.specs.Calls.{askCode, askBytes};
 ghost use Rattle.replay.specs.Ready.{Ready};
 ghost use Rattle.starting.specs.Startable.{Startable};
@@ -21,26 +21,27 @@ ghost use Rattle.lent.specs.Objects.{objectsIn};
 ghost use Rattle.client.specs.Client.{startAnswer, startLeaves};
 ghost use Rattle.client.specs.Loads.{Loads};
 
+// An event whose objects are the numbers of the rows.
+fn put_rows(trail: &mut [u8], t: &[u32; 1684], activity: u32, rows: &[u8]) -> u64
+    requires { ⌜ Ready (now t) (now trail) ⌝ }
+    ensures { λ r. ⌜ (r ≡ packed (askCode (now (trail .entry)) (askEvent activity (wordsOf (now (rows .entry))))) 0) × (now (trail .exit) ≡ askBytes (now (trail .entry)) (askEvent activity (wordsOf (now (rows .entry))))) ⌝ }
+{
+    pack(
+        event_code(events::event::event(trail, t, activity, rows)),
+        0,
+    )
+}
+
+// An event with a list of objects: its rows, or nine objects for a list of no whole rows or over eight.
 pub fn put_event(trail: &mut [u8], t: &[u32; 1684], activity: u32, objects: &[u8]) -> u64
     requires { ⌜ Ready (now t) (now trail) ⌝ }
     ensures { λ r. ⌜ (r ≡ packed (askCode (now (trail .entry)) (askEvent activity (objectsIn (now (objects .entry))))) 0) × (now (trail .exit) ≡ askBytes (now (trail .entry)) (askEvent activity (objectsIn (now (objects .entry))))) ⌝ }
 {
-    let n = count_objects(objects);
-    let os = [
-        object_at(objects, n, 0),
-        object_at(objects, n, 1),
-        object_at(objects, n, 2),
-        object_at(objects, n, 3),
-        object_at(objects, n, 4),
-        object_at(objects, n, 5),
-        object_at(objects, n, 6),
-        object_at(objects, n, 7),
-        object_at(objects, n, 8),
-    ];
-    pack(
-        event_code(events::event::event(trail, t, activity, &os[..n])),
-        0,
-    )
+    if whole_rows(objects) {
+        return put_rows(trail, t, activity, objects);
+    }
+    let nine = [0u8; 36];
+    put_rows(trail, t, activity, &nine)
 }
 
 pub fn put_close(trail: &mut [u8], t: &[u32; 1684]) -> u64

@@ -1,14 +1,13 @@
 -- The objects of a list in bytes. Assumes nothing.
-use Prim.Native.Nat.{ℕ, _/_, _%_, _≤_, _<_}
-use mathlib.Core.Path.{_≡_, refl, ap, sym, _∙_}
-use mathlib.Core.List.{List, [], _∷_}
-use native.Mathlib.Omega.{arith}
-use native.Mathlib.Decide.{ℕ-discrete, decLe}
-use lib.ListN.{length, getD, take, replicate}
+use Prim.Native.Nat.{ℕ, _%_, _≤_, _<_}
+use mathlib.Core.Bool.{Bool, true, false}
+use mathlib.Core.Path.{_≡_, sym, ap, _∙_}
+use mathlib.Core.List.{List}
+use lib.ListN.{length, replicate}
+use lib.Dec.{eqb, leb}
 use borrow.Author.Tests.{eq-eqb, ne-eqb, le-leb, lt-leb}
+use Rattle.words.specs.Lists.{pick, both}
 use Rattle.words.specs.Words.{wordsOf}
-use Rattle.words.proofs.Words.{length-words}
-use Rattle.words.proofs.Lists.{zeros-at}
 use Rattle.lent.specs.Objects.{objectsIn}
 
 module _ (s : List ℕ) where
@@ -24,43 +23,15 @@ module _ (s : List ℕ) where
   unfolding objectsIn
   many-rows e h = rw (eq-eqb (length s % 4) 0 e, lt-leb (length s) 32 h)
 
-  pub count-rows : length s % 4 ≡ 0 → length s ≤ 32 → length s / 4 ≡ length (objectsIn s)
-  count-rows e h = sym (ap length (rows-in e h) ∙ length-words s)
+  -- by the answer of `whole_rows`: the numbers of the list, or those of 36 bytes that are 0
+  module _ (r : Bool) (e : r ≡ both (eqb (length s % 4) 0) (leb (length s) 32)) where
+    told : objectsIn s ≡ pick r (wordsOf s) (replicate 9 0)
+    unfolding objectsIn
+    told = ap (λ (t : Bool). pick t (wordsOf s) (replicate 9 0)) (sym e)
 
-  -- nine objects are nine times 0, and fewer are the list's numbers
-  pub nine-zeros : 9 ≡ length (objectsIn s) → (i : ℕ) → 0 ≡ getD (objectsIn s) i 0
-  nine-zeros e i = go (ℕ-discrete (length s % 4) 0) (decLe (length s) 32)
-    where
-      go : Dec (length s % 4 ≡ 0) → Dec (length s ≤ 32) → 0 ≡ getD (objectsIn s) i 0
-      go (yes p) (yes q) = absurd (omega (arith, count-rows p q))
-      go (yes p) (no q) = rw (many-rows p (omega arith)) (sym (zeros-at 9 i))
-      go (no p) d = rw (no-rows p) (sym (zeros-at 9 i))
+    pub told-rows : r ≡ true → wordsOf s ≡ objectsIn s
+    told-rows h = sym (told ∙ rw h)
 
-  pub fewer : (length (objectsIn s) ≡ 9 → ⊥) → objectsIn s ≡ wordsOf s
-  fewer n = go (ℕ-discrete (length s % 4) 0) (decLe (length s) 32)
-    where
-      go : Dec (length s % 4 ≡ 0) → Dec (length s ≤ 32) → objectsIn s ≡ wordsOf s
-      go (yes p) (yes q) = rows-in p q
-      go (yes p) (no q) = absurd (n (ap length (many-rows p (omega arith))))
-      go (no p) d = absurd (n (ap length (no-rows p)))
-
--- as many of the nine numbers as the list has are the list
-pub nine : (xs : List ℕ) → length xs ≤ 9
-    → take (length xs) (getD xs 0 0 ∷ getD xs 1 0 ∷ getD xs 2 0 ∷ getD xs 3 0 ∷ getD xs 4 0 ∷ getD xs 5 0 ∷ getD xs 6 0 ∷ getD xs 7 0 ∷ getD xs 8 0 ∷ []) ≡ xs
-nine [] h = refl
-nine (a ∷ []) h = refl
-nine (a ∷ b ∷ []) h = refl
-nine (a ∷ b ∷ c ∷ []) h = refl
-nine (a ∷ b ∷ c ∷ d ∷ []) h = refl
-nine (a ∷ b ∷ c ∷ d ∷ e ∷ []) h = refl
-nine (a ∷ b ∷ c ∷ d ∷ e ∷ f ∷ []) h = refl
-nine (a ∷ b ∷ c ∷ d ∷ e ∷ f ∷ g ∷ []) h = refl
-nine (a ∷ b ∷ c ∷ d ∷ e ∷ f ∷ g ∷ i ∷ []) h = refl
-nine (a ∷ b ∷ c ∷ d ∷ e ∷ f ∷ g ∷ i ∷ j ∷ []) h = refl
-nine (a ∷ b ∷ c ∷ d ∷ e ∷ f ∷ g ∷ i ∷ j ∷ k ∷ r) h = absurd (omega arith)
-
--- nine numbers that are the list's, cut to its length, are the list
-pub nine-read : (xs : List ℕ) (n : ℕ) → n ≡ length xs → n ≤ 9 → (a b c d e f g i j : ℕ)
-    → a ≡ getD xs 0 0 → b ≡ getD xs 1 0 → c ≡ getD xs 2 0 → d ≡ getD xs 3 0 → e ≡ getD xs 4 0 → f ≡ getD xs 5 0 → g ≡ getD xs 6 0 → i ≡ getD xs 7 0 → j ≡ getD xs 8 0
-    → take n (a ∷ b ∷ c ∷ d ∷ e ∷ f ∷ g ∷ i ∷ j ∷ []) ≡ xs
-nine-read xs n p h a b c d e f g i j ea eb ec ed ee ef eg ei ej = rw (p, ea, eb, ec, ed, ee, ef, eg, ei, ej) (nine xs (omega arith))
+    pub told-nine : r ≡ false → wordsOf (replicate 36 0) ≡ objectsIn s
+    unfolding wordsOf
+    told-nine h = sym (told ∙ rw h)

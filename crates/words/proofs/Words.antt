@@ -4,7 +4,7 @@ use native.Mathlib.Omega.{arith}
 use native.Mathlib.Nat.{div-div-eq-div-mul, mod-eq-of-lt, div-add-mod', le-of-suc-le-suc, not-suc-le-zero, add-zero}
 use mathlib.Core.Path.{_≡_, refl, sym, ap, ap₂, subst, _∙_}
 use mathlib.Core.List.{List, [], _∷_, _++_, append-nil}
-use lib.ListN.{length, getD, set}
+use lib.ListN.{length, getD, set, take, drop}
 use lib.Seq.{sets, getD-set-same, getD-set-other}
 use Rattle.words.specs.Lists.{pick, All}
 use Rattle.words.proofs.Lists.{clash}
@@ -106,6 +106,28 @@ length-words (a ∷ []) = refl
 length-words (a ∷ (b ∷ [])) = refl
 length-words (a ∷ (b ∷ (c ∷ []))) = refl
 length-words (a ∷ (b ∷ (c ∷ (d ∷ r)))) = omega (arith, length-words r)
+
+-- the numbers of a part that begins and ends between two numbers
+four-more : (n : ℕ) → 4 * suc n ≡ suc (suc (suc (suc (4 * n))))
+four-more n = omega arith
+
+pub words-take : (n : ℕ) (s : List ℕ) → wordsOf (take (4 * n) s) ≡ take n (wordsOf s)
+unfolding wordsOf
+words-take zero s = refl
+words-take (suc n) [] = rw (four-more n)
+words-take (suc n) (a ∷ []) = rw (four-more n)
+words-take (suc n) (a ∷ (b ∷ [])) = rw (four-more n)
+words-take (suc n) (a ∷ (b ∷ (c ∷ []))) = rw (four-more n)
+words-take (suc n) (a ∷ (b ∷ (c ∷ (d ∷ r)))) = rw (four-more n, words-take n r)
+
+pub words-drop : (n : ℕ) (s : List ℕ) → wordsOf (drop (4 * n) s) ≡ drop n (wordsOf s)
+unfolding wordsOf
+words-drop zero s = refl
+words-drop (suc n) [] = rw (four-more n)
+words-drop (suc n) (a ∷ []) = rw (four-more n)
+words-drop (suc n) (a ∷ (b ∷ [])) = rw (four-more n)
+words-drop (suc n) (a ∷ (b ∷ (c ∷ []))) = rw (four-more n)
+words-drop (suc n) (a ∷ (b ∷ (c ∷ (d ∷ r)))) = rw (four-more n) (words-drop n r)
 
 pub length-bytes : (ws : List ℕ) → length (bytesOf ws) ≡ 4 * length ws
 unfolding bytesOf

@@ -1,30 +1,37 @@
--- The objects read are those of the row. Assumes nothing.
-use mathlib.Core.Path.{sym, ap, _∙_}
+-- The bytes handed on are those of the row's objects. Assumes nothing.
+use mathlib.Core.Path.{_≡_, subst, _∙_}
 use native.Mathlib.Omega.{arith}
-use lib.ListN.{length}
-use Rattle.words.specs.Words.{wordsOf}
 use Rattle.words.proofs.Words.{length-words}
+use Rattle.replay.specs.Plain.{Ask}
 use Rattle.replay.specs.Calls.{askCode, askBytes}
-use Rattle.bench.proofs.Rows.{objects-size, row-is}
+use Rattle.bench.proofs.Rows.{row-is}
 use borrow.Author.Needs.{needs}
 use Rattle.bench.proofs.put_row.Statement.{statement}
 use Rattle.bench.proofs.put_row.Tie as tie
 
-add-read-row : tie.Need-add-read-row
-add-read-row c = omega (arith, length-words (c .before .before .before .args .events .now))
+add-from : tie.Need-add-from
+add-from c = omega (arith, length-words (c .before .before .args .events .now))
 
-read-row-requires : tie.Need-read-row-requires
-read-row-requires c κs = search needs
+mul-from : tie.Need-mul-from
+mul-from c = omega (arith, length-words (c .before .before .args .events .now))
+
+mul-to : tie.Need-mul-to
+mul-to c = omega (arith, length-words (c .before .before .args .events .now))
+
+add-to : tie.Need-add-to
+add-to c = omega (arith, length-words (c .before .before .args .events .now))
 
 get-word-requires : tie.Need-get-word-requires
 get-word-requires c κs = search needs
 
-slice-reshare-prefix-event : tie.Need-slice-reshare-prefix-event
-slice-reshare-prefix-event c = search needs
+sub-event : tie.Need-sub-event
+sub-event c = search needs
 
-slice-aggregate-event : tie.Need-slice-aggregate-event
-slice-aggregate-event c = let s = c .before .before .before .before .before .before .before .before .before .before in
-    objects-size (wordsOf (s .args .events .now)) (s .args .at) (s .args .count) (s .pre .1 .1) ∙ sym (ap length (c .before .before .before .before .before .read-row .ensures))
+part-event-start : tie.Need-part-event-start
+part-event-start c = search needs
+
+part-event-end : tie.Need-part-event-end
+part-event-end c = omega (arith, length-words (c .before .before .before .before .args .events .now))
 
 event-requires : tie.Need-event-requires
 event-requires c κs = search needs
@@ -35,26 +42,25 @@ event-code-requires c κs = search needs
 same-length : tie.Need-same-length
 same-length c = search needs
 
-same-length-2 : tie.Need-same-length-2
-same-length-2 c = search needs
-
 returns : tie.Need-returns
-returns c = let s = c .before .before .before .before .before .before .before .before .before .before .before .before .before .before in
-    let e = c .before .before .before .event .ensures in
-    let q = row-is (wordsOf (s .args .events .now)) (s .args .at) _ (s .args .count) _ (c .before .before .before .before .before .get-word .ensures) (s .pre .1 .2) (c .before .before .before .before .before .before .before .before .before .read-row .ensures) in
-    (c .event-code .ensures ∙ e .0 ∙ ap (askCode (s .args .trail .now)) q, e .1 ∙ ap (askBytes (s .args .trail .now)) q)
+returns c = let s = c .before .before .before .before .before .before .before .before .before in
+    let k = c .before .before .before .event in
+    let q = row-is (s .args .events .now) (s .args .at) (s .args .count) _ (c .before .before .before .before .before .get-word .ensures) (s .pre .1 .1) in
+    subst (λ (q : Ask). (c .event-code .result ≡ askCode (s .args .trail .now) q) × (k .last .0 ≡ askBytes (s .args .trail .now) q)) q (c .event-code .ensures ∙ k .ensures .0, k .ensures .1)
 
 pub put-row-spec : {M : Type 1} → statement M
 put-row-spec =
     tie.close
     (tie.spec
-    add-read-row
-    read-row-requires
+    add-from
+    mul-from
+    mul-to
+    add-to
     get-word-requires
-    slice-reshare-prefix-event
-    slice-aggregate-event
+    sub-event
+    part-event-start
+    part-event-end
     event-requires
     event-code-requires
     same-length
-    same-length-2
     returns)
