@@ -23,7 +23,7 @@ use Rattle.replay.specs.Calls.{netAt, stateAt, askCode, askBytes}
 use Rattle.replay.proofs.Encode.{Laid, counts-size, encode-le, intact-laid, intact-encode, table-encode, state-encode}
 use Rattle.replay.proofs.Keep.{sound-ask}
 use Rattle.checkpoint.specs.Restore.{beginsClosed, tests44, tests45, tests46, tests47, restoreTests, restoreCode}
-use Rattle.checkpoint.proofs.Spans.{Ends, ends-at, at-ends, words-from-length, words-from-bytes, words-read, words-head, glue, interleave-parted, parted-length}
+use Rattle.checkpoint.proofs.Spans.{Ends, ends-at, at-ends, words-from-length, words-from-bytes, words-from-read, words-head, glue, interleave-parted, parted-length}
 use Rattle.checkpoint.proofs.Judged.{sound-registered, sound45, sound46, sound47, judged-sound}
 
 -- a table that loads has at most 4,704 bytes
@@ -88,7 +88,7 @@ module _ (b : List ℕ) (N : Net) (F : Fitted b N) where
       let t = table-length in let k = kinds-length in let p = places-length in let j = pairs-length in
       let c : length (counts (stateIn N b)) ≡ countsSize N = ap length counts-whole ∙ counts-length in
       ten _ _ _ _ _ _ _ _ _ _ _ _ _ _ _ _ _ _ _ _ (omega arith) (omega arith) (omega arith) (omega arith) (omega arith) (omega arith) (omega arith) (omega arith) (omega arith) (omega arith)
-      ∙ sym (words-read b 10 0 (omega arith))
+      ∙ sym (words-from-read b 10 0 (omega arith))
     where
       ten : (a0 a1 a2 a3 a4 a5 a6 a7 a8 a9 b0 b1 b2 b3 b4 b5 b6 b7 b8 b9 : ℕ) → a0 ≡ b0 → a1 ≡ b1 → a2 ≡ b2 → a3 ≡ b3 → a4 ≡ b4 → a5 ≡ b5 → a6 ≡ b6 → a7 ≡ b7 → a8 ≡ b8 → a9 ≡ b9
           → _≡_ {A = List ℕ} (a0 ∷ a1 ∷ a2 ∷ a3 ∷ a4 ∷ a5 ∷ a6 ∷ a7 ∷ a8 ∷ a9 ∷ []) (b0 ∷ b1 ∷ b2 ∷ b3 ∷ b4 ∷ b5 ∷ b6 ∷ b7 ∷ b8 ∷ b9 ∷ [])

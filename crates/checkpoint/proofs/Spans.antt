@@ -10,10 +10,10 @@ use lib.Seq.{drop-drop, getD-drop}
 use lib.Dec.{eqb}
 use borrow.Author.Tests.{eqb-true, eq-eqb}
 use Rattle.words.specs.Lists.{pick}
-use Rattle.words.specs.Words.{word, wordsOf, bytesOf, bodiesFrom, endsAt}
+use Rattle.words.specs.Words.{word, wordsAt, wordsOf, bytesOf, bodiesFrom, endsAt}
 use Rattle.words.specs.declared.Bodies.the-variants.{Gap}
 use Rattle.words.proofs.Lists.{clash}
-use Rattle.words.proofs.Words.{length-words, bytes-of-words}
+use Rattle.words.proofs.Words.{length-words, words-take, words-read, bytes-of-words}
 use Rattle.replay.specs.Record.{evens, odds, interleave, wordsFrom}
 
 -- n bodies from byte `at` on, by the contents from byte i on, end at byte e
@@ -49,18 +49,6 @@ bytes-take (suc n) (x ∷ s) f (suc i) = bytes-take n s (λ i. f (suc i)) i
 bytes-drop : (n : ℕ) (s : List ℕ) → Bytes s → Bytes (drop n s)
 bytes-drop n s f i = rw getD-drop (f (n + i))
 
-four-more : (n : ℕ) → 4 * suc n ≡ suc (suc (suc (suc (4 * n))))
-four-more n = omega arith
-
-pub words-take : (n : ℕ) (s : List ℕ) → wordsOf (take (4 * n) s) ≡ take n (wordsOf s)
-unfolding wordsOf
-words-take zero s = refl
-words-take (suc n) [] = rw (four-more n)
-words-take (suc n) (a ∷ []) = rw (four-more n)
-words-take (suc n) (a ∷ (b ∷ [])) = rw (four-more n)
-words-take (suc n) (a ∷ (b ∷ (c ∷ []))) = rw (four-more n)
-words-take (suc n) (a ∷ (b ∷ (c ∷ (d ∷ r)))) = rw (four-more n, words-take n r)
-
 -- n numbers from byte i on that are there
 module _ (b : List ℕ) (i n : ℕ) (fits : i + 4 * n ≤ length b) where
   pub words-from-length : length (wordsFrom b i n) ≡ n
@@ -76,34 +64,14 @@ module _ (b : List ℕ) (i n : ℕ) (fits : i + 4 * n ≤ length b) where
       ap bytesOf (sym (words-take n (drop i b))) ∙ bytes-of-words s (omega (arith, length-words s)) (bytes-take (4 * n) (drop i b) (bytes-drop i b f))
       ∙ ap (λ (k : ℕ). take k (drop i b)) (sym e)
 
--- the numbers from byte i on, each read by itself
-abbrev pub readFrom : List ℕ → ℕ → ℕ → List ℕ
-readFrom b i zero = []
-readFrom b i (suc n) = word b i ∷ readFrom b (i + 4) n
-
-front : (s : List ℕ) (n : ℕ) → 4 ≤ length s → take (suc n) (wordsOf s) ≡ word s 0 ∷ take n (wordsOf (drop 4 s))
-unfolding wordsOf word
-front [] n h = absurd (omega arith)
-front (a ∷ []) n h = absurd (omega arith)
-front (a ∷ (b ∷ [])) n h = absurd (omega arith)
-front (a ∷ (b ∷ (c ∷ []))) n h = absurd (omega arith)
-front (a ∷ (b ∷ (c ∷ (d ∷ r)))) n h = refl
-
-pub word-drop : (b : List ℕ) (i : ℕ) → word (drop i b) 0 ≡ word b i
-unfolding word
-word-drop b i = simp (getD-drop, add-zero)
-
-pub words-read : (b : List ℕ) (n i : ℕ) → i + 4 * n ≤ length b → wordsFrom b i n ≡ readFrom b i n
+-- the numbers from byte i on
+pub words-from-read : (b : List ℕ) (n i : ℕ) → i + 4 * n ≤ length b → wordsFrom b i n ≡ wordsAt b i n
 unfolding wordsFrom
-words-read b zero i h = refl
-words-read b (suc n) i h =
-    front (drop i b) n (simp length-drop (omega arith))
-    ∙ ap₂ (λ (w : ℕ) (s : List ℕ). w ∷ take n (wordsOf s)) (word-drop b i) (drop-drop 4 i b)
-    ∙ ap (λ (l : List ℕ). word b i ∷ l) (words-read b n (i + 4) (omega arith))
+words-from-read = words-read
 
 pub words-head : (b : List ℕ) (i n : ℕ) → 0 < n → i + 4 * n ≤ length b → getD (wordsFrom b i n) 0 0 ≡ word b i
 words-head b i zero p h = absurd (omega arith)
-words-head b i (suc n) p h = ap (λ (l : List ℕ). getD l 0 0) (words-read b (suc n) i h)
+words-head b i (suc n) p h = ap (λ (l : List ℕ). getD l 0 0) (words-from-read b (suc n) i h)
 
 -- a span and what follows it
 pub glue : (b : List ℕ) (i n : ℕ) (r : List ℕ) → r ≡ drop (i + n) b → take n (drop i b) ++ r ≡ drop i b

@@ -24,7 +24,8 @@ use Rattle.replay.specs.Calls.{netAt, stateAt}
 use Rattle.checkpoint.specs.Restore.{beginsClosed, tests45, tests46, tests47, restoreTests, restoreCode, restoreSecond}
 use Rattle.checkpoint.specs.Take.{Framed, Opened, checkedWords, takeCode, takeBytes}
 use Rattle.judging.specs.Judge.{beginsOne, judgeCode, judgeSecond}
-use Rattle.checkpoint.proofs.Spans.{ends-at, words-take, word-drop}
+use Rattle.words.proofs.Words.{words-take, word-drop}
+use Rattle.checkpoint.proofs.Spans.{ends-at}
 use Rattle.judging.proofs.Verdicts.{judge-not-43}
 
 -- a list of tests without its first

@@ -7,7 +7,7 @@ use native.Mathlib.Omega.{arith}
 use lib.ListN.{length, take, drop}
 use borrow.Author.Tests.{ltb-false, leb-false, eq-eqb, ne-eqb}
 use Rattle.words.specs.Refusals.{first}
-use Rattle.words.specs.Words.{word, wordsOf}
+use Rattle.words.specs.Words.{word, wordsOf, wordsAt}
 use Rattle.words.proofs.Lists.{is-eq}
 use Rattle.words.proofs.Refusals.{none-apply, first-zero}
 use Rattle.net.specs.Net.{Net, Loaded}
@@ -17,8 +17,9 @@ use Rattle.tracefile.specs.declared.Answer.{Answer}
 use Rattle.tracefile.specs.declared.Found.the-variants as found
 use Rattle.tracefile.specs.Answers.{codeOf, nothing, unless}
 use Rattle.tracefile.specs.Claims.{Handed, HandedOut}
-use Rattle.tracefile.specs.Trace.{objectsAt, eventAt, endTests, readTests, eventFound, readCode, readFrom, readAtCode, readAt}
-use Rattle.tracefile.proofs.ObjectLaws.{length-objects, bytes-objects, first-of-eight}
+use Rattle.tracefile.specs.Trace.{eventAt, endTests, readTests, eventFound, readCode, readFrom, readAtCode, readAt}
+use Rattle.words.proofs.Words.{length-at}
+use Rattle.tracefile.proofs.ObjectLaws.{bytes-objects, first-of-eight}
 
 unless-event : (c : ℕ) (a : Answer) (at : ℕ) → unless c a at .found ≡ found.Event → (c ≡ 0) × (unless c a at ≡ a)
 unless-event c a at p = go (ℕ-discrete c 0)
@@ -53,10 +54,10 @@ module _ (N : Net) (L : Loaded N) (ks : List ℕ) (accepted : ℕ) where
         let n : word b (from + 4) ≤ 8 =
         omega (
           arith,
-          sym (length-objects b (from + 8) (word b (from + 4))) ∙ is-eq (length (objectsAt b (from + 8) (word b (from + 4)))) (length (N .arcs (word b from))) (t .1 .1 .1 .0),
+          sym (length-at b (from + 8) (word b (from + 4))) ∙ is-eq (length (wordsAt b (from + 8) (word b (from + 4)))) (length (N .arcs (word b from))) (t .1 .1 .1 .0),
           L .arcs-le (word b from) (leb-false (N .acts) (word b from) (t .1 .1 .0)),
         ) in
-        let o = first-of-eight (objectsAt b (from + 8) (word b (from + 4))) (word b (from + 4)) (length-objects b (from + 8) (word b (from + 4))) n in
+        let o = first-of-eight (wordsAt b (from + 8) (word b (from + 4))) (word b (from + 4)) (length-at b (from + 8) (word b (from + 4))) n in
         record {
           taken =
               ap (λ (os : List ℕ). plain.refusal N ks 0 accepted (record { act = word b from; objs = os })) o
@@ -80,7 +81,7 @@ module _ (N : Net) (L : Loaded N) (ks : List ℕ) (accepted : ℕ) where
         let s = event-only p in
         let h = handed-found (s .0) in
         let n = word b (from + 4) in
-        subst Held-in (sym (s .1)) (bytes-objects b n (from + 8) (h .there) ∙ sym (first-of-eight (objectsAt b (from + 8) n) n (length-objects b (from + 8) n) (h .few)))
+        subst Held-in (sym (s .1)) (bytes-objects b n (from + 8) (h .there) ∙ sym (first-of-eight (wordsAt b (from + 8) n) n (length-at b (from + 8) n) (h .few)))
 
 pub handed-out : (N : Net) → Loaded N → HandedOut N
 unfolding readAt

@@ -9,7 +9,7 @@ use lib.ListN.{length, getD, replicate}
 use lib.Seq.{sets}
 use borrow.Author.Tests.{ltb-false, leb-false, eq-eqb, ne-eqb}
 use Rattle.words.specs.Refusals.{first}
-use Rattle.words.specs.Words.{word}
+use Rattle.words.specs.Words.{word, wordsAt}
 use Rattle.words.proofs.Lists.{is-eq}
 use Rattle.words.proofs.Refusals.{none-apply, first-then, first-stays}
 use Rattle.net.specs.Net.{Net, Loaded}
@@ -21,8 +21,8 @@ use Rattle.tracefile.specs.declared.Answer.{Answer}
 use Rattle.tracefile.specs.declared.Found.the-variants as found
 use Rattle.tracefile.specs.Answers.{nothing, unless}
 use Rattle.tracefile.specs.Parts.{Ready, frontTests, objectsFound, bodyRead}
-use Rattle.tracefile.specs.Trace.{objectsAt, endFound, eventFound, readTests, readFrom, readAt}
-use Rattle.tracefile.proofs.ObjectLaws.{length-objects}
+use Rattle.tracefile.specs.Trace.{endFound, eventFound, readTests, readFrom, readAt}
+use Rattle.words.proofs.Words.{length-at}
 
 -- the answer where the number is 0, and the refusal where it is not
 pub unless-taken : (c : ℕ) (a : Answer) (at : ℕ) → c ≡ 0 → unless c a at ≡ a
@@ -32,14 +32,14 @@ pub refused-is : (c d : ℕ) (a : Answer) (at : ℕ) → c ≡ d → (c ≡ 0 �
 refused-is c d a at e n = rw (← e, ne-eqb c 0 n)
 
 -- the event at the front of the window, by its parts
-pub event-is : (w : List ℕ) (at : ℕ) {a n next : ℕ} {os : List ℕ} → a ≡ word w 0 → n ≡ word w 4 → os ≡ sets (replicate 8 0) 0 (objectsAt w 8 (word w 4)) → next ≡ at + 8 + 4 * word w 4
+pub event-is : (w : List ℕ) (at : ℕ) {a n next : ℕ} {os : List ℕ} → a ≡ word w 0 → n ≡ word w 4 → os ≡ sets (replicate 8 0) 0 (wordsAt w 8 (word w 4)) → next ≡ at + 8 + 4 * word w 4
     → record { found = found.Event; event = record { activity = a; count = n; objects = os }; next = record { at = next } } ≡ eventFound w 0 at
 event-is w at a n o e = rw (a, n, o, e)
 
 -- the tests of a read through a window
 pub window-tests : (N : Net) (ks : List ℕ) (accepted : ℕ) (w : List ℕ) (body at : ℕ)
-    → first (readTests N ks accepted w 0 body at) ≡ first (frontTests N accepted w body at ++ objectTests N ks (word w 0) (objectsAt w 8 (word w 4)))
-window-tests N ks accepted w body at = rw (length-objects w 8 (word w 4))
+    → first (readTests N ks accepted w 0 body at) ≡ first (frontTests N accepted w body at ++ objectTests N ks (word w 0) (wordsAt w 8 (word w 4)))
+window-tests N ks accepted w body at = rw (length-at w 8 (word w 4))
 
 pub front-ready : (N : Net) → Loaded N → (accepted : ℕ) (w : List ℕ) (body at : ℕ) → first (frontTests N accepted w body at) ≡ 0 → body ≤ 18446744073709551615 → Ready N w at
 front-ready N L accepted w body at e h =
@@ -55,7 +55,7 @@ front-ready N L accepted w body at e h =
 -- what a read through a window finds: at the body's end, where a test before the objects applies, and where none does
 module _ (N : Net) (ks : List ℕ) (accepted : ℕ) (w : List ℕ) (body at : ℕ) where
   abbrev objs : List (Bool × ℕ)
-  objs = objectTests N ks (word w 0) (objectsAt w 8 (word w 4))
+  objs = objectTests N ks (word w 0) (wordsAt w 8 (word w 4))
 
   pub window-end : at ≡ body → endFound w 0 at ≡ readFrom N ks accepted w 0 body at
   unfolding readFrom

@@ -10,7 +10,7 @@ use lib.Dec.{ltb, leb, eqb}
 use lib.ListN.{length, take, drop}
 use borrow.Author.Tests.{leb-false, lt-ltb, eq-eqb, ne-eqb}
 use Rattle.words.specs.Refusals.{first}
-use Rattle.words.specs.Words.{word}
+use Rattle.words.specs.Words.{word, wordsAt}
 use Rattle.words.proofs.Lists.{is-eq}
 use Rattle.words.proofs.Refusals.{none-apply, first-stays}
 use Rattle.net.specs.Net.{Net, Loaded}
@@ -20,16 +20,16 @@ use Rattle.tracefile.specs.declared.Answer.{Answer}
 use Rattle.tracefile.specs.declared.Found.the-variants as found
 use Rattle.tracefile.specs.Answers.{nothing, unless}
 use Rattle.tracefile.specs.Claims.{WindowEnough}
-use Rattle.tracefile.specs.Trace.{objectsAt, eventFound, readTests, readFrom}
-use Rattle.tracefile.proofs.ObjectLaws.{length-objects}
+use Rattle.tracefile.specs.Trace.{eventFound, readTests, readFrom}
+use Rattle.words.proofs.Words.{length-at}
 use Rattle.tracefile.proofs.ReadLaws.{refused-is}
 
 -- objects inside the first k bytes
-same-objects : (k : ℕ) (w b : List ℕ) (from : ℕ) → take k w ≡ take k (drop from b) → (n i : ℕ) → i + 4 * n ≤ k → objectsAt w i n ≡ objectsAt b (from + i) n
+same-objects : (k : ℕ) (w b : List ℕ) (from : ℕ) → take k w ≡ take k (drop from b) → (n i : ℕ) → i + 4 * n ≤ k → wordsAt w i n ≡ wordsAt b (from + i) n
 same-objects k w b from same zero i h = refl
 same-objects k w b from same (suc n) i h =
     ap₂ (λ (x : ℕ) (xs : List ℕ). x ∷ xs) (same-word k w b from same i (omega arith))
-    (same-objects k w b from same n (i + 4) (omega arith) ∙ ap (λ (j : ℕ). objectsAt b j n) (omega arith))
+    (same-objects k w b from same n (i + 4) (omega arith) ∙ ap (λ (j : ℕ). wordsAt b j n) (omega arith))
 
 -- the tests of a read up to 24, and those behind
 abbrev headTests : Net → ℕ → ℕ → ℕ → Bool → ℕ → ℕ → List (Bool × ℕ)
@@ -49,8 +49,8 @@ read-split : (N : Net) (ks : List ℕ) (accepted : ℕ) (b : List ℕ) (from bod
     → first (readTests N ks accepted b from body at)
     ≡ first
     (headTests N accepted body at (ltb (length b) (from + 8)) (word b from) (word b (from + 4))
-    ++ restTests N ks body at (word b (from + 4)) (ltb (length b) (from + 8 + 4 * word b (from + 4))) (word b from) (objectsAt b (from + 8) (word b (from + 4))))
-read-split N ks accepted b from body at = rw (length-objects b (from + 8) (word b (from + 4)))
+    ++ restTests N ks body at (word b (from + 4)) (ltb (length b) (from + 8 + 4 * word b (from + 4))) (word b from) (wordsAt b (from + 8) (word b (from + 4))))
+read-split N ks accepted b from body at = rw (length-at b (from + 8) (word b (from + 4)))
 
 module _ (N : Net) (L : Loaded N) (ks : List ℕ) (accepted : ℕ) (w b : List ℕ) (from : ℕ) (same : take 40 w ≡ take 40 (drop from b)) (body at : ℕ) where
   act-same : word w 0 ≡ word b from
@@ -66,10 +66,10 @@ module _ (N : Net) (L : Loaded N) (ks : List ℕ) (accepted : ℕ) (w b : List �
   headAt = headTests N accepted body at (ltb (length b) (from + 8)) (word b from) (word b (from + 4))
 
   abbrev restIn : List (Bool × ℕ)
-  restIn = restTests N ks body at (word w 4) (ltb (length w) (8 + 4 * word w 4)) (word w 0) (objectsAt w 8 (word w 4))
+  restIn = restTests N ks body at (word w 4) (ltb (length w) (8 + 4 * word w 4)) (word w 0) (wordsAt w 8 (word w 4))
 
   abbrev restAt : List (Bool × ℕ)
-  restAt = restTests N ks body at (word b (from + 4)) (ltb (length b) (from + 8 + 4 * word b (from + 4))) (word b from) (objectsAt b (from + 8) (word b (from + 4)))
+  restAt = restTests N ks body at (word b (from + 4)) (ltb (length b) (from + 8 + 4 * word b (from + 4))) (word b from) (wordsAt b (from + 8) (word b (from + 4)))
 
   head-same : headIn ≡ headAt
   head-same = rw (same-short 40 w b from same 8 (omega arith) (omega arith), act-same, count-same)
@@ -86,7 +86,7 @@ module _ (N : Net) (L : Loaded N) (ks : List ℕ) (accepted : ℕ) (w b : List �
         let e : from + (8 + 4 * word w 4) ≡ from + 8 + 4 * word w 4 = omega arith in
         same-short 40 w b from same (8 + 4 * word w 4) (omega arith) (omega arith) ∙ ap (ltb (length b)) e
 
-    objects-same : objectsAt w 8 (word w 4) ≡ objectsAt b (from + 8) (word w 4)
+    objects-same : wordsAt w 8 (word w 4) ≡ wordsAt b (from + 8) (word w 4)
     objects-same = same-objects 40 w b from same (word w 4) 8 (omega arith)
 
     rest-same : restIn ≡ restAt

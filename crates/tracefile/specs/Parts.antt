@@ -5,12 +5,12 @@ use mathlib.Core.List.{List, [], _∷_}
 use lib.ListN.{length}
 use lib.Dec.{ltb, leb, eqb}
 use Rattle.words.specs.Refusals.{first}
-use Rattle.words.specs.Words.{word}
+use Rattle.words.specs.Words.{word, wordsAt}
 use Rattle.net.specs.Net.{Net}
 use Rattle.replay.specs.Plain.{objectTests}
 use Rattle.tracefile.specs.declared.Answer.{Answer}
 use Rattle.tracefile.specs.Answers.{unless}
-use Rattle.tracefile.specs.Trace.{objectsAt, eventFound, readFrom}
+use Rattle.tracefile.specs.Trace.{eventFound, readFrom}
 
 -- 23, 24, and the objects in body and file
 abbrev pub countTests : Net → List ℕ → ℕ → ℕ → List (Bool × ℕ)
@@ -39,7 +39,7 @@ pub record Ready (N : Net) (w : List ℕ) (at : ℕ) : Type 0 where
 
 -- the event at the front of the window w, or 25, 26 or 27
 unfoldable pub objectsFound : Net → List ℕ → List ℕ → ℕ → Answer
-objectsFound N ks w at = unless (first (objectTests N ks (word w 0) (objectsAt w 8 (word w 4)))) (eventFound w 0 at) at
+objectsFound N ks w at = unless (first (objectTests N ks (word w 0) (wordsAt w 8 (word w 4)))) (eventFound w 0 at) at
 
 -- reading in a file whose register claims `claimed` bytes: 71 where they are not all there
 unfoldable pub bodyRead : Net → List ℕ → ℕ → List ℕ → ℕ → ℕ → ℕ → Answer

@@ -7,7 +7,7 @@ use lib.Dec.{ltb, eqb}
 use lib.Seq.{sets}
 use Rattle.words.specs.Lists.{pick}
 use Rattle.words.specs.Refusals.{first}
-use Rattle.words.specs.Words.{word}
+use Rattle.words.specs.Words.{word, wordsAt}
 use Rattle.net.specs.Net.{Net}
 use Rattle.replay.specs.Plain.{Event, eventTests}
 use Rattle.opening.specs.Opening.{shapeTests}
@@ -15,14 +15,9 @@ use Rattle.tracefile.specs.declared.Answer.{Answer}
 use Rattle.tracefile.specs.declared.Found.the-variants as found
 use Rattle.tracefile.specs.Answers.{nothing, unless}
 
--- n numbers from byte i on
-abbrev pub objectsAt : List ℕ → ℕ → ℕ → List ℕ
-objectsAt b i zero = []
-objectsAt b i (suc n) = word b i ∷ objectsAt b (i + 4) n
-
 -- the event whose first byte is byte i: activity, number of objects, objects
 abbrev pub eventAt : List ℕ → ℕ → Event
-eventAt b i = record { act = word b i; objs = objectsAt b (i + 8) (word b (i + 4)) }
+eventAt b i = record { act = word b i; objs = wordsAt b (i + 8) (word b (i + 4)) }
 
 -- Position `at` of the events body is byte `from` of the bytes b, with which the file ends. At the body's end: 73 where
 -- there are bytes behind it.
@@ -40,7 +35,7 @@ eventFound b from at =
       event = record {
         activity = word b from;
         count = word b (from + 4);
-        objects = sets (replicate 8 0) 0 (objectsAt b (from + 8) (word b (from + 4)));
+        objects = sets (replicate 8 0) 0 (wordsAt b (from + 8) (word b (from + 4)));
       };
       next = record { at = at + 8 + 4 * word b (from + 4) };
     }

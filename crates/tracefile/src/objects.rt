@@ -7,8 +7,7 @@ ghost use lib.ListN.{length, replicate};
 ghost use lib.Dec.{leb};
 ghost use lib.Seq.{sets};
 ghost use Rattle.words.specs.Lists.{pick};
-ghost use Rattle.words.specs.Words.{word};
-ghost use Rattle.tracefile.specs.Trace.{objectsAt};
+ghost use Rattle.words.specs.Words.{word, wordsAt};
 
 // Object i of the n that stand from byte 8 of the window on, and 0 behind them.
 fn object_at(window: &[u8], n: usize, i: usize) -> u32
@@ -24,7 +23,7 @@ fn object_at(window: &[u8], n: usize, i: usize) -> u32
 // The n objects from byte 8 of the window on, over eight zeros.
 pub fn read_objects(window: &[u8], n: usize) -> [u32; 8]
     requires { ⌜ (n ≤ 8) × (8 + 4 * n ≤ length (now window)) ⌝ }
-    ensures { λ r. ⌜ r ≡ sets (replicate 8 0) 0 (objectsAt (now (window .entry)) 8 n) ⌝ }
+    ensures { λ r. ⌜ r ≡ sets (replicate 8 0) 0 (wordsAt (now (window .entry)) 8 n) ⌝ }
 {
     [
         object_at(window, n, 0),

@@ -4,8 +4,8 @@ use native.Mathlib.Omega.{arith}
 use native.Mathlib.Nat.{div-div-eq-div-mul, mod-eq-of-lt, div-add-mod', le-of-suc-le-suc, not-suc-le-zero, add-zero}
 use mathlib.Core.Path.{_≡_, refl, sym, ap, ap₂, subst, _∙_}
 use mathlib.Core.List.{List, [], _∷_, _++_, append-nil}
-use lib.ListN.{length, getD, set, take, drop}
-use lib.Seq.{sets, getD-set-same, getD-set-other}
+use lib.ListN.{length, getD, set, take, drop, length-drop}
+use lib.Seq.{sets, drop-drop, getD-drop, getD-set-same, getD-set-other}
 use Rattle.words.specs.Lists.{pick, All}
 use Rattle.words.proofs.Lists.{clash}
 use mathlib.Core.Bool.{true}
@@ -13,7 +13,7 @@ use native.Mathlib.Decide.{ℕ-discrete}
 use lib.Dec.{eqb}
 use borrow.Author.Tests.{eqb-true, eq-eqb, ne-eqb}
 use Rattle.words.specs.declared.Bodies.the-variants.{Gap, End}
-use Rattle.words.specs.Words.{joined, word, wordsOf, bytesOf, bodiesFrom, endsAt}
+use Rattle.words.specs.Words.{joined, word, wordsAt, wordsOf, bytesOf, bodiesFrom, endsAt}
 use Rattle.words.specs.Put.{Put}
 
 -- a number below 2 ^ 32 by its four digits to the base 256
@@ -128,6 +128,30 @@ words-drop (suc n) (a ∷ []) = rw (four-more n)
 words-drop (suc n) (a ∷ (b ∷ [])) = rw (four-more n)
 words-drop (suc n) (a ∷ (b ∷ (c ∷ []))) = rw (four-more n)
 words-drop (suc n) (a ∷ (b ∷ (c ∷ (d ∷ r)))) = rw (four-more n) (words-drop n r)
+
+-- the numbers from byte i on are those that the bytes from there on hold
+front : (s : List ℕ) (n : ℕ) → 4 ≤ length s → take (suc n) (wordsOf s) ≡ word s 0 ∷ take n (wordsOf (drop 4 s))
+unfolding wordsOf word
+front [] n h = absurd (omega arith)
+front (a ∷ []) n h = absurd (omega arith)
+front (a ∷ (b ∷ [])) n h = absurd (omega arith)
+front (a ∷ (b ∷ (c ∷ []))) n h = absurd (omega arith)
+front (a ∷ (b ∷ (c ∷ (d ∷ r)))) n h = refl
+
+pub word-drop : (b : List ℕ) (i : ℕ) → word (drop i b) 0 ≡ word b i
+unfolding word
+word-drop b i = simp (getD-drop, add-zero)
+
+pub words-read : (b : List ℕ) (n i : ℕ) → i + 4 * n ≤ length b → take n (wordsOf (drop i b)) ≡ wordsAt b i n
+words-read b zero i h = refl
+words-read b (suc n) i h =
+    front (drop i b) n (simp length-drop (omega arith))
+    ∙ ap₂ (λ (w : ℕ) (s : List ℕ). w ∷ take n (wordsOf s)) (word-drop b i) (drop-drop 4 i b)
+    ∙ ap (λ (l : List ℕ). word b i ∷ l) (words-read b n (i + 4) (omega arith))
+
+pub length-at : (b : List ℕ) (i n : ℕ) → length (wordsAt b i n) ≡ n
+length-at b i zero = refl
+length-at b i (suc n) = ap suc (length-at b (i + 4) n)
 
 pub length-bytes : (ws : List ℕ) → length (bytesOf ws) ≡ 4 * length ws
 unfolding bytesOf

@@ -17,6 +17,11 @@ joined a b c d = a + 256 * b + 65536 * c + 16777216 * d
 unfoldable pub word : List ℕ → ℕ → ℕ
 word b i = joined (getD b i 0) (getD b (i + 1) 0) (getD b (i + 2) 0) (getD b (i + 3) 0)
 
+-- the n numbers from byte i on
+abbrev pub wordsAt : List ℕ → ℕ → ℕ → List ℕ
+wordsAt b i zero = []
+wordsAt b i (suc n) = word b i ∷ wordsAt b (i + 4) n
+
 -- the numbers that the bytes hold, from the first byte on; up to three bytes at the end are in none
 unfoldable pub wordsOf : List ℕ → List ℕ
 wordsOf [] = []

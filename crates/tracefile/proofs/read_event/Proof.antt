@@ -6,12 +6,13 @@ use native.Mathlib.Omega.{arith}
 use lib.ListN.{length, take, drop, replicate}
 use lib.Seq.{sets}
 use Rattle.words.specs.Refusals.{first}
-use Rattle.words.specs.Words.{word, wordsOf}
+use Rattle.words.specs.Words.{word, wordsOf, wordsAt}
 use Rattle.net.specs.Held.{netIn}
 use Rattle.replay.specs.Plain.{objectTests}
 use Rattle.tracefile.specs.Parts.{objectsFound}
-use Rattle.tracefile.specs.Trace.{objectsAt, eventFound}
-use Rattle.tracefile.proofs.ObjectLaws.{length-objects, bytes-objects}
+use Rattle.tracefile.specs.Trace.{eventFound}
+use Rattle.words.proofs.Words.{length-at}
+use Rattle.tracefile.proofs.ObjectLaws.{bytes-objects}
 use Rattle.tracefile.proofs.ReadLaws.{unless-taken, refused-is, event-is}
 use borrow.Author.Needs.{needs}
 use Rattle.tracefile.proofs.read_event.Statement.{statement}
@@ -25,19 +26,19 @@ bytes c = c .before .before .before .before .before .args .window .now
 count : (c : tie.After-wide) → c .wide .result ≡ word (bytes c) 4
 count c = c .wide .ensures ∙ c .before .word-at2 .ensures
 
-handed : (c : tie.After-wide) → wordsOf (take (8 + 4 * c .wide .result - 8) (drop 8 (bytes c))) ≡ objectsAt (bytes c) 8 (word (bytes c) 4)
+handed : (c : tie.After-wide) → wordsOf (take (8 + 4 * c .wide .result - 8) (drop 8 (bytes c))) ≡ wordsAt (bytes c) 8 (word (bytes c) 4)
 handed c =
     let w = bytes c in
     let e : 8 + 4 * c .wide .result - 8 ≡ 4 * word w 4 = omega (arith, count c) in
     ap (λ (k : ℕ). wordsOf (take k (drop 8 w))) e ∙ bytes-objects w (word w 4) 8 (c .before .before .before .before .before .pre .1 .1 .room)
 
-stored : (c : tie.After-read-objects) → let w = bytes (c .before .before .before .before .before .before) in c .read-objects .result ≡ sets (replicate 8 0) 0 (objectsAt w 8 (word w 4))
+stored : (c : tie.After-read-objects) → let w = bytes (c .before .before .before .before .before .before) in c .read-objects .result ≡ sets (replicate 8 0) 0 (wordsAt w 8 (word w 4))
 stored c =
     let k = c .before .before .before .before .before .before in
-    c .read-objects .ensures ∙ ap (λ (n : ℕ). sets (replicate 8 0) 0 (objectsAt (bytes k) 8 n)) (count k)
+    c .read-objects .ensures ∙ ap (λ (n : ℕ). sets (replicate 8 0) 0 (wordsAt (bytes k) 8 n)) (count k)
 
 code : (c : tie.After-refuse-objects) → let w = bytes (c .before .before .before .before) in let a = c .before .before .before .before .before .before .before .before .before .args in
-    c .refuse-objects .result ≡ first (objectTests (netIn (a .t .now)) (wordsOf (a .register .now)) (word w 0) (objectsAt w 8 (word w 4)))
+    c .refuse-objects .result ≡ first (objectTests (netIn (a .t .now)) (wordsOf (a .register .now)) (word w 0) (wordsAt w 8 (word w 4)))
 code c =
     let k = c .before .before .before .before in
     let a = k .before .before .before .before .before .args in
@@ -77,7 +78,7 @@ refuse-objects-requires c κs =
     let k = c .before .before .before in
     let s = k .before .before .before .before .before in
     let w = bytes k in
-    (s .pre .0, (s .pre .1 .0, (omega (arith, ap length (handed k), length-objects w 8 (word w 4), s .pre .1 .1 .few), omega (arith, s .pre .1 .1 .act), refl)))
+    (s .pre .0, (s .pre .1 .0, (omega (arith, ap length (handed k), length-at w 8 (word w 4), s .pre .1 .1 .few), omega (arith, s .pre .1 .1 .act), refl)))
 
 nothing-requires : tie.Need-nothing-requires
 nothing-requires c κs = search needs
