@@ -1,6 +1,7 @@
 // Reading every count of document 01 from a trail's bytes: what is stored is looked up, and the rest is summed from it.
 
 use replay::layout::read_layout;
+use words::wide;
 ghost use mathlib.Core.Path.{_≡_};
 ghost use Prim.Native.Nat.{_+_, _*_, _<_, _≤_};
 ghost use lib.ListN.{length, getD};
@@ -53,12 +54,6 @@ pub struct TrailCounts {
     pub events: u32,
     pub jumps: u32,
     pub transfers: u32,
-}
-
-fn wide(x: u32) -> usize
-    ensures { λ r. ⌜ r ≡ x ⌝ }
-{
-    x as usize
 }
 
 // 1 once the trail is closed, else 0.
