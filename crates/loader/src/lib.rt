@@ -1,5 +1,5 @@
 // Loading: a table file's bytes become a loaded net in lent words, or are refused with the first number from 1 to 9 that applies.
-// Above `net`, and `rules` and `routes`, which have the tests 4 to 7 and 8 and 9.
+// Above `net`, and `places`, `arcs` and `routes`, which have the tests 4 and 5, 6 and 7, 8 and 9.
 
 use crate::fill::copy_all;
 use crate::fill::copy_body;

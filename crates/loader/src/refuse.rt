@@ -1,12 +1,12 @@
 // The tests 4 to 9 on a table's bodies in words, the first that applies.
 
+use arcs::bad_arcs;
+use arcs::bad_counts;
+use arcs::sum_counts;
+use places::bad_ends;
+use places::bad_place;
 use routes::kinds::two_of_kind;
 use routes::reach::unreached;
-use rules::front::bad_arcs;
-use rules::front::bad_counts;
-use rules::front::bad_ends;
-use rules::front::bad_place;
-use rules::front::sum_counts;
 use words::wide;
 ghost use mathlib.Core.Path.{_≡_};
 ghost use Rattle.words.specs.Refusals.{first};

@@ -1,6 +1,6 @@
 // The net: what it is, what loading promises of it, the answers of loading, and the look-ups of a loaded net in lent words.
-// Above `words`. `rules`, `routes` and `loader` fill and test the words; the crates above them use what `Held` and `Loaded` promise, and
-// never a table's bytes or the words' places.
+// Above `words`. `places`, `arcs`, `routes` and `loader` test and fill the words; the crates above them use what `Held` and
+// `Loaded` promise, and never a table's bytes or the words' places.
 
 ghost use mathlib.Core.Path.{_≡_};
 ghost use Prim.Native.Nat.{_≤_};
