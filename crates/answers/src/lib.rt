@@ -6,7 +6,6 @@ ghost use Prim.Native.Nat.{_≤_};
 ghost use Rattle.starting.specs.StartAnswers.{startAnswerCode};
 ghost use Rattle.events.specs.Answers.{eventCode};
 ghost use Rattle.closing.specs.Answers.{closeCode};
-ghost use Rattle.checkpoint.specs.Answers.{restoreAnswerCode, restoreAnswerSecond, resumedCode, resumedSecond, savedCode};
 ghost use Rattle.lines.specs.Answer as lines;
 ghost use Rattle.answers.specs.Answers.{packed};
 
@@ -48,78 +47,6 @@ pub fn close_code(r: closing::CloseAnswer) -> u32
     match r {
         closing::CloseAnswer::Taken => 0,
         closing::CloseAnswer::AlreadyClosed => 31,
-    }
-}
-
-pub fn check_code(r: checkpoint::RestoreAnswer) -> u32
-    ensures { λ n. ⌜ n ≡ restoreAnswerCode r ⌝ }
-{
-    match r {
-        checkpoint::RestoreAnswer::Taken => 0,
-        checkpoint::RestoreAnswer::Length => 41,
-        checkpoint::RestoreAnswer::Layout => 42,
-        checkpoint::RestoreAnswer::Table(_) => 43,
-        checkpoint::RestoreAnswer::Objects(_) => 44,
-        checkpoint::RestoreAnswer::Positions => 45,
-        checkpoint::RestoreAnswer::Counts => 46,
-        checkpoint::RestoreAnswer::Jumps => 47,
-    }
-}
-
-// The second number of 43 and 44.
-pub fn check_second(r: checkpoint::RestoreAnswer) -> u32
-    ensures { λ n. ⌜ n ≡ restoreAnswerSecond r ⌝ }
-{
-    match r {
-        checkpoint::RestoreAnswer::Taken => 0,
-        checkpoint::RestoreAnswer::Length => 0,
-        checkpoint::RestoreAnswer::Layout => 0,
-        checkpoint::RestoreAnswer::Table(n) => n,
-        checkpoint::RestoreAnswer::Objects(n) => n,
-        checkpoint::RestoreAnswer::Positions => 0,
-        checkpoint::RestoreAnswer::Counts => 0,
-        checkpoint::RestoreAnswer::Jumps => 0,
-    }
-}
-
-pub fn resumed_code(r: checkpoint::Resumed) -> u32
-    ensures { λ n. ⌜ n ≡ resumedCode r ⌝ }
-{
-    match r {
-        checkpoint::Resumed::Taken => 0,
-        checkpoint::Resumed::Length => 41,
-        checkpoint::Resumed::Layout => 42,
-        checkpoint::Resumed::Table(_) => 43,
-        checkpoint::Resumed::Objects(_) => 44,
-        checkpoint::Resumed::Positions => 45,
-        checkpoint::Resumed::Counts => 46,
-        checkpoint::Resumed::Jumps => 47,
-        checkpoint::Resumed::Room => 61,
-    }
-}
-
-pub fn resumed_second(r: checkpoint::Resumed) -> u32
-    ensures { λ n. ⌜ n ≡ resumedSecond r ⌝ }
-{
-    match r {
-        checkpoint::Resumed::Taken => 0,
-        checkpoint::Resumed::Length => 0,
-        checkpoint::Resumed::Layout => 0,
-        checkpoint::Resumed::Table(n) => n,
-        checkpoint::Resumed::Objects(n) => n,
-        checkpoint::Resumed::Positions => 0,
-        checkpoint::Resumed::Counts => 0,
-        checkpoint::Resumed::Jumps => 0,
-        checkpoint::Resumed::Room => 0,
-    }
-}
-
-pub fn saved_code(r: checkpoint::Saved) -> u32
-    ensures { λ n. ⌜ n ≡ savedCode r ⌝ }
-{
-    match r {
-        checkpoint::Saved::Taken => 0,
-        checkpoint::Saved::Room => 61,
     }
 }
 

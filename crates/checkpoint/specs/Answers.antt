@@ -1,9 +1,7 @@
 -- The paper's number for each answer of checking, taking up and putting down a record.
 use Prim.Native.Nat.{ℕ}
 use Rattle.checkpoint.specs.declared.RestoreAnswer.{RestoreAnswer}
-use Rattle.checkpoint.specs.declared.RestoreAnswer.the-variants.{Taken, Length, Layout, Table, Objects, Positions, Counts, Jumps}
-use Rattle.checkpoint.specs.declared.Resumed.{Resumed}
-use Rattle.checkpoint.specs.declared.Resumed.the-variants as R
+use Rattle.checkpoint.specs.declared.RestoreAnswer.the-variants.{Taken, Length, Layout, Table, Objects, Positions, Counts, Jumps, Room}
 use Rattle.checkpoint.specs.declared.Saved.{Saved}
 use Rattle.checkpoint.specs.declared.Saved.the-variants as S
 
@@ -17,6 +15,7 @@ restoreAnswerCode (Objects n) = 44
 restoreAnswerCode Positions = 45
 restoreAnswerCode Counts = 46
 restoreAnswerCode Jumps = 47
+restoreAnswerCode Room = 61
 
 -- the second number: 43 also gives the table's, 44 the register's
 abbrev pub restoreAnswerSecond : RestoreAnswer → ℕ
@@ -28,28 +27,7 @@ restoreAnswerSecond (Objects n) = n
 restoreAnswerSecond Positions = 0
 restoreAnswerSecond Counts = 0
 restoreAnswerSecond Jumps = 0
-
-abbrev pub resumedCode : Resumed → ℕ
-resumedCode R.Taken = 0
-resumedCode R.Length = 41
-resumedCode R.Layout = 42
-resumedCode (R.Table n) = 43
-resumedCode (R.Objects n) = 44
-resumedCode R.Positions = 45
-resumedCode R.Counts = 46
-resumedCode R.Jumps = 47
-resumedCode R.Room = 61
-
-abbrev pub resumedSecond : Resumed → ℕ
-resumedSecond R.Taken = 0
-resumedSecond R.Length = 0
-resumedSecond R.Layout = 0
-resumedSecond (R.Table n) = n
-resumedSecond (R.Objects n) = n
-resumedSecond R.Positions = 0
-resumedSecond R.Counts = 0
-resumedSecond R.Jumps = 0
-resumedSecond R.Room = 0
+restoreAnswerSecond Room = 0
 
 abbrev pub savedCode : Saved → ℕ
 savedCode S.Taken = 0

@@ -2,7 +2,6 @@
 use Prim.Native.Nat.{ℕ, _≤_}
 use mathlib.Core.Path.{_≡_, _∙_}
 use mathlib.Core.List.{List}
-use mathlib.Core.Bool.{Bool}
 use native.Mathlib.Omega.{arith}
 use lib.ListN.{length}
 use borrow.Author.Tests.{ltb-false, ne-eqb}
@@ -12,12 +11,10 @@ use Rattle.replay.specs.Calls.{askCode, askBytes}
 use Rattle.checkpoint.specs.Restore.{restoreSecond}
 use Rattle.checkpoint.specs.Calls.{saveCode, saveBytes}
 use Rattle.checkpoint.specs.Take.{takeTests, takeCode}
-use Rattle.lines.specs.Answer.{codeOf, sizeOf, Writes}
-use Rattle.lines.specs.declared.LineAnswer.{LineAnswer}
 use Rattle.answers.specs.Answers.{packed, wrote}
 use Rattle.lent.specs.Checked.{Checked}
 use Rattle.lent.proofs.Checks.{stop-answer, stop-bytes, go-answer, go-bytes}
-use Rattle.client.specs.Client.{askAnswer, askLeaves, restoreAnswer, saveAnswer, saveLeaves, writeAnswer, writeLeaves}
+use Rattle.client.specs.Client.{askAnswer, askLeaves, restoreAnswer, saveAnswer, saveLeaves}
 
 module _ (b w : List ℕ) (r : ℕ) (C : Checked b w r) where
   -- the trail is refused
@@ -30,10 +27,6 @@ module _ (b w : List ℕ) (r : ℕ) (C : Checked b w r) where
     unfolding saveAnswer saveLeaves
     save-stops lent = (stop-answer b w r C n (wrote (saveCode b (length lent)) (length b)), stop-bytes b w r C n (saveBytes b lent) lent)
 
-    pub write-stops : (tests : List (Bool × ℕ)) (x lent : List ℕ) → (r ≡ writeAnswer b tests x lent) × (lent ≡ writeLeaves b tests x lent)
-    unfolding writeAnswer writeLeaves
-    write-stops tests x lent = (stop-answer b w r C n _, stop-bytes b w r C n _ lent)
-
   -- the trail is taken
   module _ (z : r ≡ 0) where
     pub ask-goes : (q : Ask) (n : ℕ) (x : List ℕ) → (n ≡ packed (askCode b q) 0) × (x ≡ askBytes b q) → (n ≡ askAnswer b q) × (x ≡ askLeaves b q)
@@ -44,11 +37,6 @@ module _ (b w : List ℕ) (r : ℕ) (C : Checked b w r) where
         → (n ≡ saveAnswer b (length lent)) × (x ≡ saveLeaves b lent)
     unfolding saveAnswer saveLeaves
     save-goes lent n x e = (e .0 ∙ go-answer b w r C z (wrote (saveCode b (length lent)) (length b)), e .1 ∙ go-bytes b w r C z (saveBytes b lent) lent)
-
-    pub write-goes : (tests : List (Bool × ℕ)) (x lent : List ℕ) (a : LineAnswer) (left : List ℕ) (n : ℕ) → Writes tests x lent a left → n ≡ packed (codeOf a) (sizeOf a)
-        → (n ≡ writeAnswer b tests x lent) × (left ≡ writeLeaves b tests x lent)
-    unfolding writeAnswer writeLeaves
-    write-goes tests x lent a left n W e = (cc (W .code, W .size, e) ∙ go-answer b w r C z _, W .bytes ∙ go-bytes b w r C z _ lent)
 
 -- taking up the record r
 module _ (r : List ℕ) (room : ℕ) where

@@ -9,8 +9,7 @@ use borrow.Author.Tests.{eq-eqb, ne-eqb}
 use Rattle.words.specs.Words.{wordsOf}
 use Rattle.words.proofs.Refusals.{none-apply, none-split, first-zero}
 use Rattle.net.specs.Table.{netOf, loadCode}
-use Rattle.net.specs.Held.{netIn, afterLoad}
-use Rattle.net.proofs.HeldLaws.{loaded-held, held-net}
+use Rattle.net.specs.Held.{netIn}
 use Rattle.net.proofs.Promise.{promise}
 use Rattle.replay.specs.Plain.{registerTests, registerCode}
 use Rattle.replay.specs.State.{startState}
@@ -23,12 +22,6 @@ use Rattle.starting.specs.Startable.{Startable}
 use Rattle.starting.proofs.StartLaws.{table-few, objects-few, record-size}
 use Rattle.answers.specs.Answers.{packed}
 use Rattle.client.specs.Client.{beginCode, startAnswer, startLeaves}
-use Rattle.client.specs.Loads.{Loads}
-
--- what loading a table that is taken leaves in the work words
-pub loads : (table w v : List ℕ) → loadCode table ≡ 0 → length w ≡ 1684 → v ≡ afterLoad table w → Loads v table
-unfolding afterLoad
-loads table w v z e f = rw (f, eq-eqb (loadCode table) 0 z) (record { held = loaded-held table w e z; net = held-net table w e z; taken = z })
 
 module _ (table objects lent : List ℕ) where
   -- a refusal before the register is looked at
@@ -50,7 +43,7 @@ module _ (table objects lent : List ℕ) where
   module _ (t : List ℕ) (S : Startable t table objects) where
     begun : beginCode table objects (length lent) ≡ startCode table (wordsOf objects) (length lent)
     unfolding beginCode
-    begun = rw (eq-eqb (loadCode table) 0 (S .taken), eq-eqb (length objects % 4) 0 (S .whole))
+    begun = rw (eq-eqb (loadCode table) 0 (S .tabled .taken), eq-eqb (length objects % 4) 0 (S .whole))
 
     left-as : startBytes table (wordsOf objects) lent ≡ startLeaves table objects lent
     unfolding startBytes startLeaves
@@ -72,8 +65,8 @@ module _ (table objects lent : List ℕ) where
 
       record-le : length (startRecord table (wordsOf objects)) ≤ 29844
       unfolding startRecord
-      record-le = encode-le (netOf table) (promise table (S .taken)) table (startState (netOf table) (wordsOf objects))
-          (sound-start (netOf table) (promise table (S .taken)) (wordsOf objects) (registered (netOf table) (wordsOf objects) registers)) (sizes .0)
+      record-le = encode-le (netOf table) (promise table (S .tabled .taken)) table (startState (netOf table) (wordsOf objects))
+          (sound-start (netOf table) (promise table (S .tabled .taken)) (wordsOf objects) (registered (netOf table) (wordsOf objects) registers)) (sizes .0)
 
       module _ (m : ℕ) (e : m ≡ 40 + length table + length objects + length objects + 4 * countsSize (netIn t) + 4 * (netIn t .places * netIn t .places)) where
         pub size-le : m ≤ 29844

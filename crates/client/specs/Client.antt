@@ -1,6 +1,5 @@
 -- What each exported call answers, and the lent bytes that it leaves, as functions of the bytes at entry.
 use Prim.Native.Nat.{ℕ, _%_}
-use mathlib.Core.Bool.{Bool}
 use mathlib.Core.List.{List}
 use lib.ListN.{length}
 use lib.Dec.{eqb}
@@ -12,7 +11,6 @@ use Rattle.replay.specs.Calls.{askCode, askBytes, startRecord, startCode}
 use Rattle.checkpoint.specs.Restore.{restoreSecond}
 use Rattle.checkpoint.specs.Calls.{saveCode, saveBytes}
 use Rattle.checkpoint.specs.Take.{takeCode}
-use Rattle.lines.specs.Answer.{lineCode}
 use Rattle.answers.specs.Answers.{packed, wrote}
 use Rattle.lent.specs.OnTrail.{onTrail, leftBy}
 
@@ -48,10 +46,3 @@ saveAnswer b room = onTrail b (wrote (saveCode b room) (length b))
 
 unfoldable pub saveLeaves : List ℕ → List ℕ → List ℕ
 saveLeaves b lent = leftBy b (saveBytes b lent) lent
-
--- writing x into lent bytes, behind tests of its own
-unfoldable pub writeAnswer : List ℕ → List (Bool × ℕ) → List ℕ → List ℕ → ℕ
-writeAnswer b tests x lent = onTrail b (wrote (lineCode tests x lent) (length x))
-
-unfoldable pub writeLeaves : List ℕ → List (Bool × ℕ) → List ℕ → List ℕ → List ℕ
-writeLeaves b tests x lent = leftBy b (pick (eqb (lineCode tests x lent) 0) (over x lent) lent) lent

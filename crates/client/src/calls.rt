@@ -3,13 +3,13 @@
 use answers::close_code;
 use answers::event_code;
 use answers::pack;
-use answers::saved_code;
 use answers::start_code;
 use lent::objects::whole_rows;
 ghost use mathlib.Core.Path.{_≡_};
 ghost use Prim.Native.Nat.{_≤_};
 ghost use lib.ListN.{length};
 ghost use Rattle.words.specs.Words.{wordsOf};
+ghost use Rattle.net.specs.Held.{Tabled};
 ghost use Rattle.replay.specs.Calls.{askCode, askBytes};
 ghost use Rattle.replay.specs.Ready.{Ready};
 ghost use Rattle.starting.specs.Startable.{Startable};
@@ -19,7 +19,6 @@ ghost use Rattle.checkpoint.specs.Calls.{saveCode, saveBytes};
 ghost use Rattle.answers.specs.Answers.{packed, wrote};
 ghost use Rattle.lent.specs.Objects.{objectsIn};
 ghost use Rattle.client.specs.Client.{startAnswer, startLeaves};
-ghost use Rattle.client.specs.Loads.{Loads};
 
 // An event whose objects are the numbers of the rows.
 fn put_rows(trail: &mut [u8], t: &[u32; 1684], activity: u32, rows: &[u8]) -> u64
@@ -55,7 +54,7 @@ pub fn put_save(trail: &[u8], lent: &mut [u8]) -> u64
     requires { ⌜ length (now trail) ≤ 29844 ⌝ }
     ensures { λ r. ⌜ (r ≡ wrote (saveCode (now (trail .entry)) (length (now (lent .entry)))) (length (now (trail .entry)))) × (now (lent .exit) ≡ saveBytes (now (trail .entry)) (now (lent .entry))) ⌝ }
 {
-    let code = saved_code(resuming::save(trail, lent));
+    let code = checkpoint::saved_number(resuming::save(trail, lent));
     if code != 0 {
         return pack(code, 0);
     }
@@ -79,7 +78,7 @@ fn begin_rows(t: &[u32; 1684], table: &[u8], objects: &[u8], trail: &mut [u8]) -
 
 // Starting with a table that is loaded.
 pub fn begin(t: &[u32; 1684], table: &[u8], objects: &[u8], trail: &mut [u8]) -> u64
-    requires { ⌜ Loads (now t) (now table) ⌝ }
+    requires { ⌜ Tabled (now t) (now table) ⌝ }
     ensures { λ r. ⌜ (r ≡ startAnswer (now (table .entry)) (now (objects .entry)) (length (now (trail .entry)))) × (now (trail .exit) ≡ startLeaves (now (table .entry)) (now (objects .entry)) (now (trail .entry))) ⌝ }
 {
     if objects.len() % 4 != 0 {

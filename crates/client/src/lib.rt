@@ -6,14 +6,10 @@ use crate::calls::put_close;
 use crate::calls::put_event;
 use crate::calls::put_save;
 use answers::pack;
-use answers::resumed_code;
-use answers::resumed_second;
-use answers::written;
 use lent::check::checked;
-use numbers::act_numbers;
-use numbers::pair_numbers;
-use numbers::place_numbers;
-use numbers::trail_numbers;
+use writing::Line;
+use writing::write_numbers;
+use writing::write_text;
 ghost use mathlib.Core.Path.{_≡_};
 ghost use mathlib.Core.List.{[]};
 ghost use lib.ListN.{length};
@@ -24,7 +20,8 @@ ghost use Rattle.checkpoint.specs.Take.{takeBytes};
 ghost use Rattle.report.specs.TrailLines.{trailLineAt, placeLineAt, actLineAt, jumpLineAt};
 ghost use Rattle.lent.specs.Objects.{objectsIn};
 ghost use Rattle.numbers.specs.Numbers.{trailNumbers, placeNumbers, actNumbers, pairNumbers};
-ghost use Rattle.client.specs.Client.{loadAnswer, startAnswer, startLeaves, askAnswer, askLeaves, restoreAnswer, saveAnswer, saveLeaves, writeAnswer, writeLeaves};
+ghost use Rattle.client.specs.Client.{loadAnswer, startAnswer, startLeaves, askAnswer, askLeaves, restoreAnswer, saveAnswer, saveLeaves};
+ghost use Rattle.writing.specs.Writing.{writeAnswer, writeLeaves};
 
 mod calls;
 
@@ -86,9 +83,9 @@ pub extern "C" fn conform_restore(saved: &[u8], trail: &mut [u8]) -> u64
     ensures { λ _. ⌜ now (trail .exit) ≡ takeBytes (now (saved .entry)) (now (trail .entry)) ⌝ }
 {
     let r = resuming::restore(saved, trail);
-    let refused = resumed_code(r);
+    let refused = checkpoint::number(r);
     if refused != 0 {
-        return pack(refused, resumed_second(r));
+        return pack(refused, checkpoint::second(r));
     }
     pack(0, saved.len() as u32)
 }
@@ -113,12 +110,7 @@ pub extern "C" fn conform_trail_line(trail: &[u8], line: &mut [u8]) -> u64
     ensures { λ r. ⌜ r ≡ writeAnswer (now (trail .entry)) [] (trailLineAt (now (trail .entry))) (now (line .entry)) ⌝ }
     ensures { λ _. ⌜ now (line .exit) ≡ writeLeaves (now (trail .entry)) [] (trailLineAt (now (trail .entry))) (now (line .entry)) ⌝ }
 {
-    let mut t = [0u32; 1684];
-    let refused = checked(trail, &mut t);
-    if refused != 0 {
-        return refused;
-    }
-    written(report::trail::trail_line(trail, &t, line))
+    write_text(trail, Line::Trail, line)
 }
 
 // The line of a place: 51, 61, or the line.
@@ -127,12 +119,7 @@ pub extern "C" fn conform_place_line(trail: &[u8], place: u32, line: &mut [u8]) 
     ensures { λ r. ⌜ r ≡ writeAnswer (now (trail .entry)) (placeTests (now (trail .entry)) place) (placeLineAt (now (trail .entry)) place) (now (line .entry)) ⌝ }
     ensures { λ _. ⌜ now (line .exit) ≡ writeLeaves (now (trail .entry)) (placeTests (now (trail .entry)) place) (placeLineAt (now (trail .entry)) place) (now (line .entry)) ⌝ }
 {
-    let mut t = [0u32; 1684];
-    let refused = checked(trail, &mut t);
-    if refused != 0 {
-        return refused;
-    }
-    written(report::trail::place_line(trail, &t, place, line))
+    write_text(trail, Line::Place(place), line)
 }
 
 // The line of an activity: 52, 61, or the line.
@@ -141,12 +128,7 @@ pub extern "C" fn conform_act_line(trail: &[u8], activity: u32, line: &mut [u8])
     ensures { λ r. ⌜ r ≡ writeAnswer (now (trail .entry)) (actTests (now (trail .entry)) activity) (actLineAt (now (trail .entry)) activity) (now (line .entry)) ⌝ }
     ensures { λ _. ⌜ now (line .exit) ≡ writeLeaves (now (trail .entry)) (actTests (now (trail .entry)) activity) (actLineAt (now (trail .entry)) activity) (now (line .entry)) ⌝ }
 {
-    let mut t = [0u32; 1684];
-    let refused = checked(trail, &mut t);
-    if refused != 0 {
-        return refused;
-    }
-    written(report::trail::act_line(trail, &t, activity, line))
+    write_text(trail, Line::Act(activity), line)
 }
 
 // The line of the jumps from one place to another: 51, 61, or the line, which is nothing where there are none.
@@ -155,12 +137,7 @@ pub extern "C" fn conform_jump_line(trail: &[u8], from: u32, to: u32, line: &mut
     ensures { λ r. ⌜ r ≡ writeAnswer (now (trail .entry)) (pairTests (now (trail .entry)) from to) (jumpLineAt (now (trail .entry)) from to) (now (line .entry)) ⌝ }
     ensures { λ _. ⌜ now (line .exit) ≡ writeLeaves (now (trail .entry)) (pairTests (now (trail .entry)) from to) (jumpLineAt (now (trail .entry)) from to) (now (line .entry)) ⌝ }
 {
-    let mut t = [0u32; 1684];
-    let refused = checked(trail, &mut t);
-    if refused != 0 {
-        return refused;
-    }
-    written(report::trail::jump_line(trail, &t, from, to, line))
+    write_text(trail, Line::Jump(from, to), line)
 }
 
 // The numbers of the trail's line: objects, events, jumps, transfers.
@@ -169,12 +146,7 @@ pub extern "C" fn conform_trail_counts(trail: &[u8], counts: &mut [u8]) -> u64
     ensures { λ r. ⌜ r ≡ writeAnswer (now (trail .entry)) [] (trailNumbers (now (trail .entry))) (now (counts .entry)) ⌝ }
     ensures { λ _. ⌜ now (counts .exit) ≡ writeLeaves (now (trail .entry)) [] (trailNumbers (now (trail .entry))) (now (counts .entry)) ⌝ }
 {
-    let mut t = [0u32; 1684];
-    let refused = checked(trail, &mut t);
-    if refused != 0 {
-        return refused;
-    }
-    written(trail_numbers(trail, &t, counts))
+    write_numbers(trail, Line::Trail, counts)
 }
 
 // The numbers of a place's line: its number, TAKEN, IN, OUT.
@@ -183,12 +155,7 @@ pub extern "C" fn conform_place_counts(trail: &[u8], place: u32, counts: &mut [u
     ensures { λ r. ⌜ r ≡ writeAnswer (now (trail .entry)) (placeTests (now (trail .entry)) place) (placeNumbers (now (trail .entry)) place) (now (counts .entry)) ⌝ }
     ensures { λ _. ⌜ now (counts .exit) ≡ writeLeaves (now (trail .entry)) (placeTests (now (trail .entry)) place) (placeNumbers (now (trail .entry)) place) (now (counts .entry)) ⌝ }
 {
-    let mut t = [0u32; 1684];
-    let refused = checked(trail, &mut t);
-    if refused != 0 {
-        return refused;
-    }
-    written(place_numbers(trail, &t, place, counts))
+    write_numbers(trail, Line::Place(place), counts)
 }
 
 // The numbers of an activity's line: its number, FIRED, MOVED, JUMPS.
@@ -197,12 +164,7 @@ pub extern "C" fn conform_act_counts(trail: &[u8], activity: u32, counts: &mut [
     ensures { λ r. ⌜ r ≡ writeAnswer (now (trail .entry)) (actTests (now (trail .entry)) activity) (actNumbers (now (trail .entry)) activity) (now (counts .entry)) ⌝ }
     ensures { λ _. ⌜ now (counts .exit) ≡ writeLeaves (now (trail .entry)) (actTests (now (trail .entry)) activity) (actNumbers (now (trail .entry)) activity) (now (counts .entry)) ⌝ }
 {
-    let mut t = [0u32; 1684];
-    let refused = checked(trail, &mut t);
-    if refused != 0 {
-        return refused;
-    }
-    written(act_numbers(trail, &t, activity, counts))
+    write_numbers(trail, Line::Act(activity), counts)
 }
 
 // The numbers of a pair's line: the two places and the jump count, also where that is 0.
@@ -211,10 +173,5 @@ pub extern "C" fn conform_jump_count(trail: &[u8], from: u32, to: u32, counts: &
     ensures { λ r. ⌜ r ≡ writeAnswer (now (trail .entry)) (pairTests (now (trail .entry)) from to) (pairNumbers (now (trail .entry)) from to) (now (counts .entry)) ⌝ }
     ensures { λ _. ⌜ now (counts .exit) ≡ writeLeaves (now (trail .entry)) (pairTests (now (trail .entry)) from to) (pairNumbers (now (trail .entry)) from to) (now (counts .entry)) ⌝ }
 {
-    let mut t = [0u32; 1684];
-    let refused = checked(trail, &mut t);
-    if refused != 0 {
-        return refused;
-    }
-    written(pair_numbers(trail, &t, from, to, counts))
+    write_numbers(trail, Line::Jump(from, to), counts)
 }

@@ -4,14 +4,12 @@ use mathlib.Core.Path.{_≡_, ap, sym, subst, _∙_}
 use mathlib.Core.List.{List}
 use native.Mathlib.Omega.{arith}
 use lib.ListN.{length, take}
-use borrow.Author.Tests.{eq-eqb}
 use Rattle.words.specs.Words.{word, wordsOf}
 use Rattle.words.proofs.Lists.{is-eq}
 use Rattle.words.proofs.Refusals.{none-apply}
 use Rattle.net.specs.Net.{Net}
-use Rattle.net.specs.Table.{netOf, loadCode}
-use Rattle.net.specs.Held.{netIn, afterLoad}
-use Rattle.net.proofs.HeldLaws.{loaded-held, held-net}
+use Rattle.net.specs.Table.{netOf}
+use Rattle.net.specs.Held.{netIn, Tabled}
 use Rattle.replay.specs.Plain.{registerCode}
 use Rattle.replay.specs.State.{State}
 use Rattle.replay.specs.Calls.{startRecord, startCode, startBytes}
@@ -21,13 +19,6 @@ use Rattle.opening.specs.declared.Contents.the-variants.{Bodies}
 use Rattle.opening.specs.Opening.{contentsTests, contentsOf, openCode}
 use Rattle.opening.proofs.OpenLaws.{contents-bodies, not-refused}
 use Rattle.following.specs.Follows.{Follows}
-use Rattle.conform.specs.Tabled.{Tabled}
-
--- a table that is loaded
-pub loaded-tabled : (table before t : List ℕ) → length before ≡ 1684 → loadCode table ≡ 0 → t ≡ afterLoad table before → Tabled t table
-unfolding afterLoad
-loaded-tabled table before t n z e =
-    rw (e, eq-eqb (loadCode table) 0 z) (record { held = loaded-held table before n z; net = held-net table before n z; taken = z })
 
 -- a register claims whole rows
 pub whole-rows : (f : List ℕ) (r e : ℕ) → contentsOf f ≡ Bodies r e → r % 4 ≡ 0
@@ -40,7 +31,7 @@ pub register-startable : (t table register : List ℕ) (claimed there : ℕ) →
     → Startable t table register × (registerCode (netOf table) (wordsOf register) ≡ 0)
 register-startable t table register claimed there T m n h z =
     let r = not-refused (netIn t) claimed there (wordsOf register) z in (
-      record { held = T .held; net = T .net; taken = T .taken; whole = omega (arith, r .0) },
+      record { tabled = T; whole = omega (arith, r .0) },
       ap (λ (N : Net). registerCode N (wordsOf register)) (sym (T .net)) ∙ r .1,
     )
 

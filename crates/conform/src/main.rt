@@ -13,12 +13,11 @@ use starting::StartAnswer;
 ghost use mathlib.Core.Path.{_≡_};
 ghost use Prim.Native.Nat.{_%_, _<_};
 ghost use lib.ListN.{length};
-ghost use Rattle.net.specs.Held.{Held};
+ghost use Rattle.net.specs.Held.{Held, Tabled};
 ghost use Rattle.words.specs.Words.{wordsOf};
 ghost use Rattle.net.specs.Table.{netOf};
 ghost use Rattle.replay.specs.Plain.{registerCode};
 ghost use Rattle.starting.specs.Startable.{Startable};
-ghost use Rattle.conform.specs.Tabled.{Tabled};
 
 // Room for the longest record.
 fn record_buffer() -> [u8; 29844]

@@ -1,8 +1,8 @@
 // The check of a trail that is lent.
 
-use answers::check_code;
-use answers::check_second;
 use answers::pack;
+use checkpoint::number;
+use checkpoint::second;
 ghost use mathlib.Core.Path.{_≡_};
 ghost use lib.ListN.{length};
 ghost use Rattle.lent.specs.Checked.{Checked};
@@ -13,5 +13,5 @@ pub fn checked(trail: &[u8], t: &mut [u32; 1684]) -> u64
     ensures { λ r. ⌜ Checked (now (trail .entry)) (now (t .exit)) r ⌝ }
 {
     let r = resuming::check(trail, t);
-    pack(check_code(r), check_second(r))
+    pack(number(r), second(r))
 }

@@ -8,7 +8,7 @@ use lib.Seq.{sets}
 use Rattle.words.specs.Lists.{pick, pairUp, parts}
 use Rattle.words.specs.Words.{word, bodyOf}
 use Rattle.net.specs.Net.{Net, Arc}
-use Rattle.net.specs.Table.{netFrom, loadCode}
+use Rattle.net.specs.Table.{netFrom, netOf, loadCode}
 
 -- Words 0 to 3: how many kinds, places, activities, arcs. Then the table's four bodies, each with room for the most
 -- that it can have: from word 4, 20, 84 and 148. From word 1172 on eight words an activity, one a kind.
@@ -76,6 +76,12 @@ pub record Held (w : List ℕ) : Type 0 where
   pub size : length before ≡ 1684
   pub taken : loadCode table ≡ 0
   pub words : w ≡ loadedWords table before
+
+-- the words hold the net of a table file that loads
+pub record Tabled (w table : List ℕ) : Type 0 where
+  pub held : Held w
+  pub net : netIn w ≡ netOf table
+  pub taken : loadCode table ≡ 0
 
 -- words that hold the numbers of kinds, places and activities that test 3 allows
 pub record Sized (w : List ℕ) : Type 0 where

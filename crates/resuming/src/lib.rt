@@ -2,7 +2,6 @@
 // Above `judging`, which tests the bodies behind the table, and `loader`; `checkpoint` has the definitions.
 
 use checkpoint::RestoreAnswer;
-use checkpoint::Resumed;
 use checkpoint::Saved;
 use judging::judge;
 use words::wide;
@@ -14,7 +13,7 @@ ghost use Rattle.net.specs.Held.{afterLoad};
 ghost use Rattle.replay.specs.Record.{tableIn};
 ghost use Rattle.checkpoint.specs.Restore.{restoreCode, restoreSecond};
 ghost use Rattle.checkpoint.specs.Calls.{saveCode, saveBytes};
-ghost use Rattle.checkpoint.specs.Answers.{restoreAnswerCode, restoreAnswerSecond, resumedCode, resumedSecond, savedCode};
+ghost use Rattle.checkpoint.specs.Answers.{restoreAnswerCode, restoreAnswerSecond, savedCode};
 ghost use Rattle.checkpoint.specs.Take.{Framed, Opened, checkedWords, takeCode, takeBytes};
 
 fn words_of(t: [u32; 1684])
@@ -88,36 +87,31 @@ fn copy_front(from: &[u8], to: &mut [u8])
 }
 
 // The record, to which none of 41 to 47 applies, becomes the first bytes of the trail.
-fn put_trail(rec: &[u8], trail: &mut [u8]) -> Resumed
+fn put_trail(rec: &[u8], trail: &mut [u8]) -> RestoreAnswer
     requires { ⌜ restoreCode (now rec) ≡ 0 ⌝ }
-    ensures { λ r. ⌜ resumedCode r ≡ takeCode (now (rec .entry)) (length (now (trail .entry))) ⌝ }
-    ensures { λ r. ⌜ resumedSecond r ≡ restoreSecond (now (rec .entry)) ⌝ }
+    ensures { λ r. ⌜ restoreAnswerCode r ≡ takeCode (now (rec .entry)) (length (now (trail .entry))) ⌝ }
+    ensures { λ r. ⌜ restoreAnswerSecond r ≡ restoreSecond (now (rec .entry)) ⌝ }
     ensures { λ _. ⌜ now (trail .exit) ≡ takeBytes (now (rec .entry)) (now (trail .entry)) ⌝ }
 {
     if trail.len() < rec.len() {
-        return Resumed::Room;
+        return RestoreAnswer::Room;
     }
     copy_front(rec, trail);
-    Resumed::Taken
+    RestoreAnswer::Taken
 }
 
 // Takes up a record, any bytes: its bytes become the first bytes of the trail. A refusal changes nothing.
-pub fn restore(rec: &[u8], trail: &mut [u8]) -> Resumed
-    ensures { λ r. ⌜ resumedCode r ≡ takeCode (now (rec .entry)) (length (now (trail .entry))) ⌝ }
-    ensures { λ r. ⌜ resumedSecond r ≡ restoreSecond (now (rec .entry)) ⌝ }
+pub fn restore(rec: &[u8], trail: &mut [u8]) -> RestoreAnswer
+    ensures { λ r. ⌜ restoreAnswerCode r ≡ takeCode (now (rec .entry)) (length (now (trail .entry))) ⌝ }
+    ensures { λ r. ⌜ restoreAnswerSecond r ≡ restoreSecond (now (rec .entry)) ⌝ }
     ensures { λ _. ⌜ now (trail .exit) ≡ takeBytes (now (rec .entry)) (now (trail .entry)) ⌝ }
 {
     let mut t = [0u32; 1684];
-    match check(rec, &mut t) {
-        RestoreAnswer::Taken => put_trail(rec, trail),
-        RestoreAnswer::Length => Resumed::Length,
-        RestoreAnswer::Layout => Resumed::Layout,
-        RestoreAnswer::Table(n) => Resumed::Table(n),
-        RestoreAnswer::Objects(n) => Resumed::Objects(n),
-        RestoreAnswer::Positions => Resumed::Positions,
-        RestoreAnswer::Counts => Resumed::Counts,
-        RestoreAnswer::Jumps => Resumed::Jumps,
+    let answer = check(rec, &mut t);
+    if checkpoint::number(answer) != 0 {
+        return answer;
     }
+    put_trail(rec, trail)
 }
 
 // Puts down the record of a trail, which is the trail's bytes.

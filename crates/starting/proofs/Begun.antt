@@ -28,13 +28,13 @@ module _ (t table objects : List ℕ) (S : Startable t table objects) (ok : regi
   made = startRecord table (wordsOf objects)
 
   loaded : Loaded (netOf table)
-  loaded = promise table (S .taken)
+  loaded = promise table (S .tabled .taken)
 
   sound : Sound (netOf table) begun
   sound = sound-start (netOf table) loaded (wordsOf objects) (registered (netOf table) (wordsOf objects) ok)
 
   few : length table ≤ 4704
-  few = table-size table (S .taken) .1
+  few = table-size table (S .tabled .taken) .1
 
   pub start-fits : length made ≤ 29844
   unfolding startRecord
@@ -54,10 +54,10 @@ module _ (t table objects : List ℕ) (S : Startable t table objects) (ok : regi
 
   pub ready-start : Ready t made
   ready-start = record {
-    held = S .held;
-    net = S .net ∙ sym net-is;
+    held = S .tabled .held;
+    net = S .tabled .net ∙ sym net-is;
     intact = subst (λ (N : Net). Intact N made) (sym net-is) intact;
-    whole = ap (λ (l : List ℕ). length l % 4) table-is ∙ table-size table (S .taken) .2;
+    whole = ap (λ (l : List ℕ). length l % 4) table-is ∙ table-size table (S .tabled .taken) .2;
   }
 
   state-is : stateIn (netOf table) made ≡ begun

@@ -62,25 +62,25 @@ module _ (t table objects : List ℕ) (S : Startable t table objects) (ok : regi
   begun = startState (netOf table) (wordsOf objects)
 
   sound : Sound (netOf table) begun
-  sound = sound-start (netOf table) (promise table (S .taken)) (wordsOf objects) (registered (netOf table) (wordsOf objects) ok)
+  sound = sound-start (netOf table) (promise table (S .tabled .taken)) (wordsOf objects) (registered (netOf table) (wordsOf objects) ok)
 
   rows : 4 * length (wordsOf objects) ≡ length objects
   rows = four-times (length objects) (length (wordsOf objects)) (S .whole) (length-words objects)
 
   pub table-few : length table ≤ 4704
-  table-few = table-size table (S .taken) .1
+  table-few = table-size table (S .tabled .taken) .1
 
   pub objects-few : length objects ≤ 4096
   objects-few = omega (arith, rows, registered (netOf table) (wordsOf objects) ok .few)
 
   pub kinds-known : All (λ (k : ℕ). k < netIn t .kinds) (wordsOf objects)
-  kinds-known = subst (λ (N : Net). All (λ (k : ℕ). k < N .kinds) (wordsOf objects)) (sym (S .net)) (registered (netOf table) (wordsOf objects) ok .kinds)
+  kinds-known = subst (λ (N : Net). All (λ (k : ℕ). k < N .kinds) (wordsOf objects)) (sym (S .tabled .net)) (registered (netOf table) (wordsOf objects) ok .kinds)
 
   record-size-of : length (startRecord table (wordsOf objects)) ≡ 40 + length table + length objects + length objects + 4 * countsSize (netOf table) + 4 * (netOf table .places * netOf table .places)
   unfolding startRecord
   record-size-of = omega (
     arith,
-    laid (netOf table) (promise table (S .taken)) table begun sound table-few .size,
+    laid (netOf table) (promise table (S .tabled .taken)) table begun sound table-few .size,
     rows,
     length-map (wordsOf objects) (netOf table .source),
     counts-size (netOf table) begun sound,
@@ -89,12 +89,12 @@ module _ (t table objects : List ℕ) (S : Startable t table objects) (ok : regi
 
   -- how many bytes the record takes
   pub record-size : length (startRecord table (wordsOf objects)) ≡ 40 + length table + length objects + length objects + 4 * countsSize (netIn t) + 4 * (netIn t .places * netIn t .places)
-  record-size = record-size-of ∙ ap (λ (N : Net). 40 + length table + length objects + length objects + 4 * countsSize N + 4 * (N .places * N .places)) (sym (S .net))
+  record-size = record-size-of ∙ ap (λ (N : Net). 40 + length table + length objects + length objects + 4 * countsSize N + 4 * (N .places * N .places)) (sym (S .tabled .net))
 
   -- and how many numbers
   pub words-size : (out : List ℕ) → length out ≡ length (startRecord table (wordsOf objects))
       → length (wordsOf out) ≡ 10 + length table / 4 + length objects / 4 + length objects / 4 + countsSize (netIn t) + netIn t .places * netIn t .places
-  words-size out e = let h : length table % 4 ≡ 0 = table-size table (S .taken) .2 in let g = S .whole in omega (arith, length-words out, record-size)
+  words-size out e = let h : length table % 4 ≡ 0 = table-size table (S .tabled .taken) .2 in let g = S .whole in omega (arith, length-words out, record-size)
 
   -- the numbers that starting stores, as one list
   module _ (w : List ℕ) (c p : ℕ) (cs : c ≡ 4 * countsSize (netIn t)) (ps : p ≡ 4 * (netIn t .places * netIn t .places))
@@ -102,8 +102,8 @@ module _ (t table objects : List ℕ) (S : Startable t table objects) (ok : regi
     heads : contentsOf (length table) (length objects) c p ≡ contents table begun
     heads = cc (
       rows,
-      cs ∙ ap (λ (N : Net). 4 * countsSize N) (S .net),
-      ps ∙ ap (λ (N : Net). 4 * (N .places * N .places)) (S .net),
+      cs ∙ ap (λ (N : Net). 4 * countsSize N) (S .tabled .net),
+      ps ∙ ap (λ (N : Net). 4 * (N .places * N .places)) (S .tabled .net),
       counts-size (netOf table) begun sound,
       length-map (wordsOf objects) (netOf table .source),
       length-replicate {A = ℕ} (netOf table .places * netOf table .places) 0,
@@ -111,7 +111,7 @@ module _ (t table objects : List ℕ) (S : Startable t table objects) (ok : regi
 
     tails : replicate (c / 4 + p / 4) 0 ≡ counts begun ++ begun .pairs
     tails = sym (rest-zeros (netOf table .acts) (netOf table .places * netOf table .places) (c / 4 + p / 4)
-        (omega (arith, cs ∙ ap (λ (N : Net). 4 * countsSize N) (S .net), ps ∙ ap (λ (N : Net). 4 * (N .places * N .places)) (S .net))))
+        (omega (arith, cs ∙ ap (λ (N : Net). 4 * countsSize N) (S .tabled .net), ps ∙ ap (λ (N : Net). 4 * (N .places * N .places)) (S .tabled .net))))
 
     pub stored : sets (sets (sets (sets (sets w 0 (contentsOf (length table) (length objects) c p)) 10 (wordsOf table)) (10 + length table / 4) (wordsOf objects)) (10 + length table / 4 + length objects / 4) (map (netIn t .source) (wordsOf objects)))
         (10 + length table / 4 + length objects / 4 + length objects / 4) (replicate (c / 4 + p / 4) 0) ≡ recordWords table begun
@@ -120,14 +120,14 @@ module _ (t table objects : List ℕ) (S : Startable t table objects) (ok : regi
         10 (10 + length table / 4) (10 + length table / 4 + length objects / 4) (10 + length table / 4 + length objects / 4 + length objects / 4)
         refl (omega (arith, length-words table)) (omega (arith, length-words objects)) (omega (arith, length-words objects, length-map (wordsOf objects) (netIn t .source)))
         (omega (arith, length-replicate {A = ℕ} (c / 4 + p / 4) 0))
-        ∙ cc (heads, tails, ap (λ (N : Net). map (N .source) (wordsOf objects)) (S .net))
+        ∙ cc (heads, tails, ap (λ (N : Net). map (N .source) (wordsOf objects)) (S .tabled .net))
 
   -- bytes that hold them are the record
   pub record-is : (out : List ℕ) → length out ≡ length (startRecord table (wordsOf objects)) → ((i : ℕ) → getD table i 0 < 256) → ((i : ℕ) → getD out i 0 < 256)
       → wordsOf out ≡ recordWords table begun → out ≡ startRecord table (wordsOf objects)
   unfolding startRecord
   record-is out size small bytes words =
-      let h : length table % 4 ≡ 0 = table-size table (S .taken) .2 in
+      let h : length table % 4 ≡ 0 = table-size table (S .tabled .taken) .2 in
       let g = S .whole in
       sym (bytes-of-words out (omega (arith, length-words out, record-size)) bytes)
       ∙ ap bytesOf words

@@ -3,14 +3,11 @@ use Prim.Native.Nat.{ℕ, _+_, _%_}
 use mathlib.Core.Path.{_≡_}
 use mathlib.Core.List.{List, [], _∷_}
 use lib.ListN.{length}
-use Rattle.net.specs.Held.{netIn, Held}
-use Rattle.net.specs.Table.{netOf, loadCode}
+use Rattle.net.specs.Held.{Tabled}
 
 -- the words hold the net of the table file, which loads; the register has whole rows
 pub record Startable (t table objects : List ℕ) : Type 0 where
-  pub held : Held t
-  pub net : netIn t ≡ netOf table
-  pub taken : loadCode table ≡ 0
+  pub tabled : Tabled t table
   pub whole : length objects % 4 ≡ 0
 
 -- the five contents pairs, by how many bytes table, register (and positions), counts and jumps take

@@ -2,7 +2,8 @@
 use mathlib.Core.Path.{sym, _∙_}
 use Prim.Native.Nat.{ℕ}
 use lib.ListN.{length-replicate}
-use Rattle.client.proofs.Starts.{loads, table-stops}
+use Rattle.net.proofs.HeldLaws.{loaded-tabled}
+use Rattle.client.proofs.Starts.{table-stops}
 use borrow.Author.Needs.{needs}
 use Rattle.client.proofs.conform_start.Statement.{statement}
 use Rattle.client.proofs.conform_start.Tie as tie
@@ -23,7 +24,7 @@ returns c = let a = c .before .before .before .before .before .before .before .b
 
 begin-requires : tie.Need-begin-requires
 begin-requires c κs = let k = c .before .before .before .before .load in
-    loads _ _ _ (sym (c .before .before .before .number .ensures ∙ k .ensures .0) ∙ c .before .before .if1 .left) (length-replicate {A = ℕ} 1684 0) (k .ensures .1)
+    loaded-tabled _ _ (length-replicate {A = ℕ} 1684 0) (sym (c .before .before .before .number .ensures ∙ k .ensures .0) ∙ c .before .before .if1 .left) _ (k .ensures .1)
 
 same-length : tie.Need-same-length
 same-length c = search needs

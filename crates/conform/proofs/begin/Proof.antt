@@ -35,7 +35,7 @@ enum-told c = search needs
 record-bytes-requires : tie.Need-record-bytes-requires
 record-bytes-requires c κs =
     let s = c .before .before .before .before .before .before .before .before in
-    (s .pre .0 .held, (table-few (s .args .t .now) (s .args .table .now) (s .args .register .now) (s .pre .0) (s .pre .1), objects-few (s .args .t .now) (s .args .table .now) (s .args .register .now) (s .pre .0) (s .pre .1)))
+    (s .pre .0 .tabled .held, (table-few (s .args .t .now) (s .args .table .now) (s .args .register .now) (s .pre .0) (s .pre .1), objects-few (s .args .t .now) (s .args .table .now) (s .args .register .now) (s .pre .0) (s .pre .1)))
 
 array-borrow-prefix-rec : tie.Need-array-borrow-prefix-rec
 array-borrow-prefix-rec c = omega (arith, size-is c, fits c)

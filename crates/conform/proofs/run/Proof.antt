@@ -1,7 +1,7 @@
 -- A table that is not refused is loaded. Assumes nothing.
 use mathlib.Core.Path.{_≡_, sym, _∙_}
 use Rattle.net.specs.Answer.{codeOf}
-use Rattle.conform.proofs.Opening.{loaded-tabled}
+use Rattle.net.proofs.HeldLaws.{loaded-tabled}
 use borrow.Author.Needs.{needs}
 use Rattle.conform.proofs.run.Statement.{statement}
 use Rattle.conform.proofs.run.Tie as tie
@@ -25,7 +25,7 @@ read-trail-requires : tie.Need-read-trail-requires
 read-trail-requires c κs =
     let l = c .before .before .before .load in
     let z : codeOf (l .result) ≡ 0 = sym (c .before .before .number .ensures) ∙ c .before .if1 .left in
-    loaded-tabled (c .before .before .before .before .before .before .before .args .table .now) (c .before .before .before .before .before .net-buffer .result) (l .last .1 .0) (sym (c .before .before .before .before .before .net-buffer .ensures)) (sym (l .ensures .0) ∙ z) (l .ensures .1)
+    loaded-tabled (c .before .before .before .before .before .before .before .args .table .now) (c .before .before .before .before .before .net-buffer .result) (sym (c .before .before .before .before .before .net-buffer .ensures)) (sym (l .ensures .0) ∙ z) (l .last .1 .0) (l .ensures .1)
 
 returns-2 : tie.Need-returns-2
 returns-2 c = search needs

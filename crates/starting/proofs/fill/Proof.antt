@@ -44,7 +44,7 @@ put-sources-requires : tie.Need-put-sources-requires
 put-sources-requires c κs =
     let a = c .before .before .before .before .before .before .before .before .before .before .before .before .before .before .before .before .before .before .args in
     let p = c .before .before .before .before .before .before .before .before .before .before .before .before .before .before .before .before .before .before .pre in
-    (p .0 .held, (kinds-known (a .t .now) (a .table .now) (a .objects .now) (p .0) (p .1 .0), omega (arith, words-size (a .t .now) (a .table .now) (a .objects .now) (p .0) (p .1 .0) (c .before .before .before .copy-words2 .last .1 .0) (omega (arith, c .before .before .before .copy-words2 .kept, c .before .before .before .before .before .before .before .copy-words .kept, c .before .before .before .before .before .before .before .before .before .before .before .put-contents .kept .0, p .1 .1)), length-words (a .objects .now))))
+    (p .0 .tabled .held, (kinds-known (a .t .now) (a .table .now) (a .objects .now) (p .0) (p .1 .0), omega (arith, words-size (a .t .now) (a .table .now) (a .objects .now) (p .0) (p .1 .0) (c .before .before .before .copy-words2 .last .1 .0) (omega (arith, c .before .before .before .copy-words2 .kept, c .before .before .before .before .before .before .before .copy-words .kept, c .before .before .before .before .before .before .before .before .before .before .before .put-contents .kept .0, p .1 .1)), length-words (a .objects .now))))
 
 add-put-zeros : tie.Need-add-put-zeros
 add-put-zeros c = search needs

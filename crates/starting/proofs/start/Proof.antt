@@ -16,7 +16,7 @@ register-refusal-requires c κs = search needs
 
 -- the number of the register, by the table's net
 code-is : (c : tie.After-register-refusal) → c .register-refusal .result ≡ registerCode (netOf (c .before .before .before .before .args .table .now)) (wordsOf (c .before .before .before .before .args .objects .now))
-code-is c = c .register-refusal .ensures ∙ ap (λ (N : Net). registerCode N (wordsOf (c .before .before .before .before .args .objects .now))) (c .before .before .before .before .pre .net)
+code-is c = c .register-refusal .ensures ∙ ap (λ (N : Net). registerCode N (wordsOf (c .before .before .before .before .args .objects .now))) (c .before .before .before .before .pre .tabled .net)
 
 returns : tie.Need-returns
 returns c = let a = c .before .before .before .before .before .args in register-refused (a .table .now) (a .objects .now) (a .rec .now) 11 (omega arith) (sym (c .if1 .taken) ∙ code-is (c .before))

@@ -14,7 +14,7 @@ record-bytes-requires : tie.Need-record-bytes-requires
 record-bytes-requires c κs =
     let a = c .before .before .before .args in
     let p = c .before .before .before .pre in
-    (p .0 .held, (table-few (a .t .now) (a .table .now) (a .objects .now) (p .0) (p .1), objects-few (a .t .now) (a .table .now) (a .objects .now) (p .0) (p .1)))
+    (p .0 .tabled .held, (table-few (a .t .now) (a .table .now) (a .objects .now) (p .0) (p .1), objects-few (a .t .now) (a .table .now) (a .objects .now) (p .0) (p .1)))
 
 returns : tie.Need-returns
 returns c =

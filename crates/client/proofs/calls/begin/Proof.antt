@@ -9,7 +9,7 @@ returns c = let s = c .before .before .before .before in
     rows-stop (s .args .table .now) (s .args .objects .now) (s .args .trail .now) (s .pre .taken) (c .if1 .taken)
 
 begin-rows-requires : tie.Need-begin-rows-requires
-begin-rows-requires c κs = search needs
+begin-rows-requires c κs = record { tabled = c .before .before .before .before .before .pre; whole = c .before .if1 .left }
 
 same-length : tie.Need-same-length
 same-length c = search needs

@@ -25,7 +25,7 @@ returns c = let s = c .before .before .before .before .before .before .before .b
 
 record-bytes-requires : tie.Need-record-bytes-requires
 record-bytes-requires c κs = let s = c .before .before .before .before .before .before .before .before .before in
-    (s .pre .held, sizes (s .args .table .now) (s .args .objects .now) (s .args .trail .now) _ (s .pre) (sym (c .before .start-code .ensures ∙ c .before .before .before .before .start .ensures .0) ∙ c .if1 .left))
+    (s .pre .tabled .held, sizes (s .args .table .now) (s .args .objects .now) (s .args .trail .now) _ (s .pre) (sym (c .before .start-code .ensures ∙ c .before .before .before .before .start .ensures .0) ∙ c .if1 .left))
 
 cast-pack : tie.Need-cast-pack
 cast-pack c = let s = c .before .before .before .before .before .before .before .before .before .before in

@@ -10,11 +10,11 @@ use Rattle.lent.proofs.check.checked.Tie as tie
 check-requires : tie.Need-check-requires
 check-requires c κs = search needs
 
-check-code-requires : tie.Need-check-code-requires
-check-code-requires c κs = search needs
+number-requires : tie.Need-number-requires
+number-requires c κs = search needs
 
-check-second-requires : tie.Need-check-second-requires
-check-second-requires c κs = search needs
+second-requires : tie.Need-second-requires
+second-requires c κs = search needs
 
 pack-requires : tie.Need-pack-requires
 pack-requires c κs = search needs
@@ -23,10 +23,10 @@ returns : tie.Need-returns
 returns c = let a = c .before .before .before .before .before .before .args in
     let k = c .before .before .before .check in
     checked-by (a .trail .now) (a .t .now) _ (c .pack .result)
-    (c .pack .ensures ∙ ap₂ packed (c .before .before .check-code .ensures ∙ k .ensures .0) (c .before .check-second .ensures ∙ k .ensures .1 .0))
+    (c .pack .ensures ∙ ap₂ packed (c .before .before .number .ensures ∙ k .ensures .0) (c .before .second .ensures ∙ k .ensures .1 .0))
     (k .ensures .1 .1) (c .before .before .before .before .before .before .pre) (λ i. omega (arith, c .before .before .before .before .before .shared-slice-known .given i))
 
 pub checked-spec : {M : Type 1} → statement M
 checked-spec =
     tie.close
-    (tie.spec check-requires check-code-requires check-second-requires pack-requires returns)
+    (tie.spec check-requires number-requires second-requires pack-requires returns)
