@@ -4,7 +4,7 @@ set -eu
 cd "$(dirname "$0")/.."
 work=$(mktemp -d)
 trap 'rm -rf "$work"' EXIT
-# the gate begins with no archive; after an edit, build it anew with `rt staticlib client`
+# the gate builds the archive; after an edit, build it anew with `rt staticlib client`
 [ -f target/staticlib/libclient.a ] || rt staticlib client
 gcc -std=c11 -O2 -Wall -Wextra -Werror -Iinclude examples/client.c -Ltarget/staticlib -lclient -o "$work/client"
 "$work/client" >"$work/sheet"

@@ -4,7 +4,7 @@ set -eu
 cd "$(dirname "$0")/.."
 work=$(mktemp -d)
 trap 'rm -rf "$work"' EXIT
-# the gate begins with no archive; after an edit, build it anew with `rt staticlib client`
+# the gate builds the archive; after an edit, build it anew with `rt staticlib client`
 [ -f target/staticlib/libclient.a ] || rt staticlib client
 rustc --edition 2021 -O -D warnings -L target/staticlib -l static=client tests/client.rs -o "$work/client_test"
 "$work/client_test" "$@"

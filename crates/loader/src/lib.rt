@@ -13,8 +13,8 @@ use net::INPUTS;
 use net::LoadAnswer;
 use net::PLACES;
 use net::SOURCES;
-use net::answer;
 ghost use mathlib.Core.Path.{_≡_};
+ghost use Prim.Native.Nat.{_≤_};
 ghost use Rattle.words.specs.Refusals.{first};
 ghost use Rattle.net.specs.Table.{shapeTests, loadCode};
 ghost use Rattle.net.specs.Held.{frontOver, keptWords, afterLoad};
@@ -80,6 +80,25 @@ fn load_code(s: &[u8], t: &mut [u32; 1684]) -> u32
         return r;
     }
     load_bodies(s, t)
+}
+
+// The answer whose number is n.
+fn answer(n: u32) -> LoadAnswer
+    requires { ⌜ n ≤ 9 ⌝ }
+    ensures { λ r. ⌜ codeOf r ≡ n ⌝ }
+{
+    match n {
+        0 => LoadAnswer::Taken,
+        1 => LoadAnswer::Length,
+        2 => LoadAnswer::Layout,
+        3 => LoadAnswer::Size,
+        4 => LoadAnswer::PlaceKind,
+        5 => LoadAnswer::Ends,
+        6 => LoadAnswer::Arcs,
+        7 => LoadAnswer::ArcPlaces,
+        8 => LoadAnswer::TwoOfKind,
+        _ => LoadAnswer::Unreached,
+    }
 }
 
 // Loads a table file into lent words. Where it is refused the words stay as they are.

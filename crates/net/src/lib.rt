@@ -3,7 +3,6 @@
 // `Loaded` promise, and never a table's bytes or the words' places.
 
 ghost use mathlib.Core.Path.{_≡_};
-ghost use Prim.Native.Nat.{_≤_};
 ghost use Rattle.net.specs.Answer.{codeOf};
 
 pub mod look;
@@ -45,25 +44,6 @@ pub enum LoadAnswer {
     TwoOfKind,
     // 9: a sink not reached from its source by arcs.
     Unreached,
-}
-
-// The answer whose number is n.
-pub fn answer(n: u32) -> LoadAnswer
-    requires { ⌜ n ≤ 9 ⌝ }
-    ensures { λ r. ⌜ codeOf r ≡ n ⌝ }
-{
-    match n {
-        0 => LoadAnswer::Taken,
-        1 => LoadAnswer::Length,
-        2 => LoadAnswer::Layout,
-        3 => LoadAnswer::Size,
-        4 => LoadAnswer::PlaceKind,
-        5 => LoadAnswer::Ends,
-        6 => LoadAnswer::Arcs,
-        7 => LoadAnswer::ArcPlaces,
-        8 => LoadAnswer::TwoOfKind,
-        _ => LoadAnswer::Unreached,
-    }
 }
 
 // The number of an answer.

@@ -3,8 +3,8 @@ use Prim.Native.Nat.{ℕ, suc, _≤_}
 use mathlib.Core.Path.{_≡_}
 use native.Mathlib.Omega.{arith}
 use borrow.Author.Needs.{needs}
-use Rattle.net.proofs.answer.Statement.{statement}
-use Rattle.net.proofs.answer.Tie as tie
+use Rattle.loader.proofs.answer.Statement.{statement}
+use Rattle.loader.proofs.answer.Tie as tie
 
 up : (n k : ℕ) → k ≤ n → (n ≡ k → ⊥) → suc k ≤ n
 up n k h m = omega arith
