@@ -1,68 +1,70 @@
--- The first line fits the buffer, and the others leave the end of all lines inside it. Assumes nothing.
-use native.Mathlib.Omega.{arith}
-use lib.ListN.{length-take}
-use Rattle.printing.proofs.Written.{line-fits}
-use borrow.Author.Needs.{needs}
 use Rattle.printing.proofs.print.Statement.{statement}
 use Rattle.printing.proofs.print.Tie as tie
+use Rattle.printing.proofs.print.Reads as reads
+use Rattle.printing.proofs.print.Lts as lts
+use Rattle.io.proofs.write_all.Reads as write-all-reads
+use Rattle.report.proofs.whole.line_count.Reads as line-count-reads
+use Rattle.report.proofs.whole.put_lines.Reads as put-lines-reads
 
-buffer-requires : tie.Need-buffer-requires
-buffer-requires c κs = search needs
+abbrev Inv-loop : tie.InvT-loop
+Inv-loop rec t out₀ n i₀ out i = ?
 
-slice-aggregate-trail-line : tie.Need-slice-aggregate-trail-line
-slice-aggregate-trail-line c = search needs
+abbrev μ-loop : tie.MeasureT-loop
+μ-loop rec t out₀ n i₀ out i = ?
 
-trail-line-requires : tie.Need-trail-line-requires
-trail-line-requires c κs = search needs
+-- src/lib.rt:20:9
+line-count-requires : tie.Need-line-count-requires Inv-loop μ-loop
+line-count-requires c κs = ?
 
-size-requires : tie.Need-size-requires
-size-requires c κs = search needs
+-- src/lib.rt:22:5
+loop-holds : tie.Need-loop-holds Inv-loop μ-loop
+loop-holds c = ?
 
-slice-aggregate-put-places : tie.Need-slice-aggregate-put-places
-slice-aggregate-put-places c = search needs
+-- src/lib.rt:23:41
+slice-aggregate-put-lines : tie.Need-slice-aggregate-put-lines Inv-loop μ-loop
+slice-aggregate-put-lines c = ?
 
-put-places-requires : tie.Need-put-places-requires
-put-places-requires c κs = let k = line-fits _ _ _ _ _ (c .before .before .before .trail-line .ensures) (omega arith) in (c .before .before .before .before .before .before .before .pre, omega (arith, k))
+-- src/lib.rt:23:13
+put-lines-requires : tie.Need-put-lines-requires Inv-loop μ-loop
+put-lines-requires c κs = ?
 
-slice-aggregate-put-acts : tie.Need-slice-aggregate-put-acts
-slice-aggregate-put-acts c = search needs
+-- src/lib.rt:25:26
+array-share-prefix-out : tie.Need-array-share-prefix-out Inv-loop μ-loop
+array-share-prefix-out c = ?
 
-put-acts-requires : tie.Need-put-acts-requires
-put-acts-requires c κs = search needs
+-- src/lib.rt:25:26
+slice-aggregate-write-all : tie.Need-slice-aggregate-write-all Inv-loop μ-loop
+slice-aggregate-write-all c = ?
 
-slice-aggregate-put-jumps : tie.Need-slice-aggregate-put-jumps
-slice-aggregate-put-jumps c = search needs
+-- src/lib.rt:25:9
+write-all-requires : tie.Need-write-all-requires Inv-loop μ-loop
+write-all-requires c κs = ?
 
-put-jumps-requires : tie.Need-put-jumps-requires
-put-jumps-requires c κs = search needs
+-- src/lib.rt:22:5
+loop-less : tie.Need-loop-less Inv-loop μ-loop
+loop-less c = ?
 
-array-share-prefix-out : tie.Need-array-share-prefix-out
-array-share-prefix-out c = search needs
+-- src/lib.rt:22:5
+loop-again : tie.Need-loop-again Inv-loop μ-loop
+loop-again c = ?
 
-slice-aggregate-write-all : tie.Need-slice-aggregate-write-all
-slice-aggregate-write-all c = simp length-take (omega arith)
-
-write-all-requires : tie.Need-write-all-requires
-write-all-requires c κs = search needs
-
-returns : tie.Need-returns
-returns c = search needs
+-- src/lib.rt:16:1
+returns : tie.Need-returns Inv-loop μ-loop
+returns c = ?
 
 pub print-spec : {M : Type 1} → statement M
 print-spec =
     tie.close
     (tie.spec
-    buffer-requires
-    slice-aggregate-trail-line
-    trail-line-requires
-    size-requires
-    slice-aggregate-put-places
-    put-places-requires
-    slice-aggregate-put-acts
-    put-acts-requires
-    slice-aggregate-put-jumps
-    put-jumps-requires
+    Inv-loop
+    μ-loop
+    line-count-requires
+    loop-holds
+    slice-aggregate-put-lines
+    put-lines-requires
     array-share-prefix-out
     slice-aggregate-write-all
     write-all-requires
+    loop-less
+    loop-again
     returns)
