@@ -16,7 +16,7 @@ pub fn refuse(code: u32, events: u32) {
 pub fn print(rec: &[u8], t: &[u32; 1684])
     requires { ⌜ Ready (now t) (now rec) ⌝ }
 {
-    let mut out = [0u8; 4096];
+    let mut out = io::buffer();
     let n = line_count(t);
     let mut i = 0;
     while i < n {

@@ -1,56 +1,62 @@
+-- The buffer has room for a line, so each turn prints one line or more. The measure is how many lines are left. Assumes nothing.
+use Prim.Native.Nat.{_-_, _≤_}
+use mathlib.Core.Path.{_≡_, ap, sym, _∙_}
+use native.Mathlib.Omega.{arith}
+use lib.ListN.{length, length-take}
+use Rattle.report.specs.Report.{linesOn, linesIn}
+use Rattle.report.proofs.PutLaws.{part-fits}
+use Rattle.report.proofs.SizeLaws.{some-fits}
+use borrow.Author.Needs.{needs}
 use Rattle.printing.proofs.print.Statement.{statement}
 use Rattle.printing.proofs.print.Tie as tie
-use Rattle.printing.proofs.print.Reads as reads
-use Rattle.printing.proofs.print.Lts as lts
-use Rattle.io.proofs.write_all.Reads as write-all-reads
-use Rattle.report.proofs.whole.line_count.Reads as line-count-reads
-use Rattle.report.proofs.whole.put_lines.Reads as put-lines-reads
 
 abbrev Inv-loop : tie.InvT-loop
-Inv-loop rec t out₀ n i₀ out i = ?
+Inv-loop rec t out₀ n i₀ out i = (n ≡ linesIn rec) × (length out ≡ 4096)
 
 abbrev μ-loop : tie.MeasureT-loop
-μ-loop rec t out₀ n i₀ out i = ?
+μ-loop rec t out₀ n i₀ out i = n - i
 
--- src/lib.rt:20:9
+-- the lines fit the buffer
+fits : (c : tie.After-put-lines Inv-loop μ-loop) → c .put-lines .result .size ≤ 4096
+fits c =
+    let l = c .before .before .before .loop in
+    omega (arith, c .put-lines .ensures .size, part-fits (c .before .before .before .before .before .before .before .args .rec .now) (l .i) (length (l .out)), l .inv .1)
+
+buffer-requires : tie.Need-buffer-requires Inv-loop μ-loop
+buffer-requires c κs = search needs
+
 line-count-requires : tie.Need-line-count-requires Inv-loop μ-loop
-line-count-requires c κs = ?
+line-count-requires c κs = c .before .before .pre .held
 
--- src/lib.rt:22:5
 loop-holds : tie.Need-loop-holds Inv-loop μ-loop
-loop-holds c = ?
+loop-holds c = (c .line-count .ensures ∙ ap linesOn (c .before .before .before .pre .net), sym (c .before .buffer .ensures))
 
--- src/lib.rt:23:41
 slice-aggregate-put-lines : tie.Need-slice-aggregate-put-lines Inv-loop μ-loop
-slice-aggregate-put-lines c = ?
+slice-aggregate-put-lines c = sym (c .before .before .loop .inv .1)
 
--- src/lib.rt:23:13
 put-lines-requires : tie.Need-put-lines-requires Inv-loop μ-loop
-put-lines-requires c κs = ?
+put-lines-requires c κs = c .before .before .before .before .before .before .pre
 
--- src/lib.rt:25:26
 array-share-prefix-out : tie.Need-array-share-prefix-out Inv-loop μ-loop
-array-share-prefix-out c = ?
+array-share-prefix-out c = omega (arith, fits (c .before), c .before .before .before .before .loop .inv .1)
 
--- src/lib.rt:25:26
 slice-aggregate-write-all : tie.Need-slice-aggregate-write-all Inv-loop μ-loop
-slice-aggregate-write-all c = ?
+slice-aggregate-write-all c = simp length-take (omega (arith, fits (c .before .before), c .before .before .before .before .before .loop .inv .1))
 
--- src/lib.rt:25:9
 write-all-requires : tie.Need-write-all-requires Inv-loop μ-loop
-write-all-requires c κs = ?
+write-all-requires c κs = search needs
 
--- src/lib.rt:22:5
 loop-less : tie.Need-loop-less Inv-loop μ-loop
-loop-less c = ?
+loop-less c =
+    let s = c .before .before .before .before .before .before .before .before .before .before in
+    let l = c .before .before .before .before .before .before .loop in
+    omega (arith, c .before .before .before .put-lines .ensures .next, some-fits (s .args .t .now) (s .args .rec .now) (s .pre) (l .i) (length (l .out)) (omega arith) (omega (arith, l .inv .1)))
 
--- src/lib.rt:22:5
 loop-again : tie.Need-loop-again Inv-loop μ-loop
-loop-again c = ?
+loop-again c = (c .before .before .before .before .before .before .loop .inv .0, omega arith)
 
--- src/lib.rt:16:1
 returns : tie.Need-returns Inv-loop μ-loop
-returns c = ?
+returns c = search needs
 
 pub print-spec : {M : Type 1} → statement M
 print-spec =
@@ -58,6 +64,7 @@ print-spec =
     (tie.spec
     Inv-loop
     μ-loop
+    buffer-requires
     line-count-requires
     loop-holds
     slice-aggregate-put-lines

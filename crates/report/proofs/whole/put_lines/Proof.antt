@@ -93,10 +93,11 @@ loop-again c =
     let a = c .before .before .before .before .before .before .before .before .before .before .before .before .args in
     let l = c .before .before .before .before .before .before .before .before .loop in
     let w = wrote (c .before .before .before .before .before .line .ensures) (ap codeOf (c .before .size .given .1)) in
-    let p = put (c .before) in
-    (l .inv .0,
-    put-more (a .rec .now) (a .from) (a .out .now) (l .i) (l .at) (l .out) (l .inv .1) _ _ (omega arith) (p .0) (omega (arith, p .1))
-    (part-back (l .out) (l .at) (lineAt (a .rec .now) (l .i)) _ (w .2)))
+    let p = put (c .before) in (
+      l .inv .0,
+      put-more (a .rec .now) (a .from) (a .out .now) (l .i) (l .at) (l .out) (l .inv .1) _ _ (omega arith) (p .0) (omega (arith, p .1))
+          (part-back (l .out) (l .at) (lineAt (a .rec .now) (l .i)) _ (w .2)),
+    )
 
 same-length-2 : tie.Need-same-length-2 Inv-loop μ-loop
 same-length-2 c = omega arith
