@@ -21,19 +21,19 @@ use Rattle.report.specs.Report.{pairLineAt, lineAt}
 module _ (b : List ℕ) where
   pub line-trail : (i : ℕ) → i ≡ 0 → trailLineAt b ≡ lineAt b i
   unfolding lineAt
-  line-trail i e = rw e
+  line-trail i e = rw e refl
 
   pub line-place : (i q : ℕ) → i ≡ 1 + q → q < netAt b .places → placeLineAt b q ≡ lineAt b i
   unfolding lineAt
   line-place zero q e h = absurd (omega arith)
-  line-place (suc i) q e h = let s : i ≡ q = omega arith in rw (s, lt-ltb q (netAt b .places) h)
+  line-place (suc i) q e h = let s : i ≡ q = omega arith in rw (s, lt-ltb q (netAt b .places) h) refl
 
   pub line-act : (i a : ℕ) → i ≡ 1 + netAt b .places + a → a < netAt b .acts → actLineAt b a ≡ lineAt b i
   unfolding lineAt
   line-act zero a e h = absurd (omega arith)
   line-act (suc i) a e h =
       let s : i - netAt b .places ≡ a = omega arith in
-      rw (le-ltb i (netAt b .places) (omega arith), s, lt-ltb a (netAt b .acts) h)
+      rw (le-ltb i (netAt b .places) (omega arith), s, lt-ltb a (netAt b .acts) h) refl
 
   pub line-pair : (i k : ℕ) → i ≡ 1 + netAt b .places + netAt b .acts + k
       → pairLineAt b (k / netAt b .places, k % netAt b .places) ≡ lineAt b i
@@ -41,7 +41,7 @@ module _ (b : List ℕ) where
   line-pair zero k e = absurd (omega arith)
   line-pair (suc i) k e =
       let s : i - netAt b .places - netAt b .acts ≡ k = omega arith in
-      rw (le-ltb i (netAt b .places) (omega arith), le-ltb (i - netAt b .places) (netAt b .acts) (omega arith), s)
+      rw (le-ltb i (netAt b .places) (omega arith), le-ltb (i - netAt b .places) (netAt b .acts) (omega arith), s) refl
 
 -- a line behind tests of which none applies
 known : {tests : List (Bool × ℕ)} {line line′ lent : List ℕ} {r : LineAnswer} {left : List ℕ} → first tests ≡ 0 → All (λ (t : Bool × ℕ). 0 < t .1) tests → line ≡ line′

@@ -52,7 +52,7 @@ module _ (b : List ℕ) (i room : ℕ) where
     where
       go : (left : ℕ) → fitting b left i room ≡ 0
       go zero = refl
-      go (suc left) = rw (lt-ltb room (length (lineAt b i)) h)
+      go (suc left) = rw (lt-ltb room (length (lineAt b i)) h) refl
 
   -- where it does
   pub fits-more : i < linesIn b → length (lineAt b i) ≤ room → fits b i room ≡ suc (fits b (suc i) (room - length (lineAt b i)))
@@ -60,7 +60,7 @@ module _ (b : List ℕ) (i room : ℕ) where
   fits-more h l = go (linesIn b - i) (linesIn b - suc i) (omega arith)
     where
       go : (left m : ℕ) → left ≡ suc m → fitting b left i room ≡ suc (fitting b m (suc i) (room - length (lineAt b i)))
-      go left m e = rw (e, le-ltb room (length (lineAt b i)) l)
+      go left m e = rw (e, le-ltb room (length (lineAt b i)) l) refl
 
   pub fits-le : fits b i room ≤ linesIn b - i
   unfolding fits
