@@ -12,7 +12,7 @@ pub fn refuse(code: u32, events: u32) {
     io::write_all(1, &out[..n]);
 }
 
-// The whole report, a buffer of lines at a time.
+// The whole report, in parts of as many lines as fit the buffer: that they are the report is `parts-are` of `report`.
 pub fn print(rec: &[u8], t: &[u32; 1684])
     requires { ⌜ Ready (now t) (now rec) ⌝ }
 {

@@ -6,17 +6,17 @@ use mathlib.Core.List.{List, [], _++_}
 use native.Mathlib.Numerals.{add-one}
 use native.Mathlib.Omega.{arith}
 use lib.Dec.{eqb, ltb}
-use lib.ListN.{length, take-append-drop, length-append}
+use lib.ListN.{length, take, drop, take-append-drop, length-append, length-drop}
 use borrow.Author.Tests.{lt-ltb, le-ltb, ltb-true, ltb-false}
 use Rattle.words.specs.Lists.{pick, over}
-use Rattle.words.proofs.Over.{overAt, from-start, behind, length-overAt}
+use Rattle.words.proofs.Over.{overAt, part, part-back, from-start, behind, length-overAt}
 use Rattle.lines.specs.Answer.{codeOf, sizeOf, lineCode, Writes}
 use Rattle.lines.specs.declared.LineAnswer.{LineAnswer}
 use Rattle.report.specs.Report.{linesIn, lineAt, linesFrom, fitting, fits, partFrom, Puts}
 
 -- a line that was written, and one that was not
 module _ {line lent : List ℕ} {r : LineAnswer} {left : List ℕ} (w : Writes [] line lent r left) where
-  pub wrote : codeOf r ≡ 0 → (length line ≤ length lent) × (sizeOf r ≡ length line) × (left ≡ over line lent)
+  wrote : codeOf r ≡ 0 → (length line ≤ length lent) × (sizeOf r ≡ length line) × (left ≡ over line lent)
   unfolding lineCode
   wrote e = go (ltb (length lent) (length line)) (ltb-false _ _) (w .code) (w .size) (w .bytes)
     where
@@ -25,7 +25,7 @@ module _ {line lent : List ℕ} {r : LineAnswer} {left : List ℕ} (w : Writes [
       go true h c s l = absurd (omega arith)
       go false h c s l = (h refl, s, l)
 
-  pub left-out : (codeOf r ≡ 0 → ⊥) → (length lent < length line) × (left ≡ lent)
+  left-out : (codeOf r ≡ 0 → ⊥) → (length lent < length line) × (left ≡ lent)
   unfolding lineCode
   left-out n = go (ltb (length lent) (length line)) (ltb-true _ _) (w .code) (w .bytes)
     where
@@ -37,7 +37,7 @@ module _ {line lent : List ℕ} {r : LineAnswer} {left : List ℕ} (w : Writes [
 -- the lines from line i on in so many bytes
 module _ (b : List ℕ) (i room : ℕ) where
   -- past the last line
-  pub fits-end : linesIn b ≤ i → fits b i room ≡ 0
+  fits-end : linesIn b ≤ i → fits b i room ≡ 0
   unfolding fits
   fits-end h = go (linesIn b - i) (omega arith)
     where
@@ -46,7 +46,7 @@ module _ (b : List ℕ) (i room : ℕ) where
       go (suc left) e = absurd (omega arith)
 
   -- where line i does not fit
-  pub fits-none : room < length (lineAt b i) → fits b i room ≡ 0
+  fits-none : room < length (lineAt b i) → fits b i room ≡ 0
   unfolding fits
   fits-none h = go (linesIn b - i)
     where
@@ -88,11 +88,11 @@ module _ (b : List ℕ) (i room : ℕ) where
           step true e m h = omega arith
           step false e m h = omega (arith, length-append (lineAt b i) (linesFrom b m (suc i)), ltb-false room (length (lineAt b i)) e)
 
-  pub part-none : fits b i room ≡ 0 → partFrom b i room ≡ []
+  part-none : fits b i room ≡ 0 → partFrom b i room ≡ []
   unfolding partFrom
   part-none e = ap (λ (n : ℕ). linesFrom b n i) e
 
-  pub part-more : i < linesIn b → length (lineAt b i) ≤ room → partFrom b i room ≡ lineAt b i ++ partFrom b (suc i) (room - length (lineAt b i))
+  part-more : i < linesIn b → length (lineAt b i) ≤ room → partFrom b i room ≡ lineAt b i ++ partFrom b (suc i) (room - length (lineAt b i))
   unfolding partFrom
   part-more h l = ap (λ (n : ℕ). linesFrom b n i) (fits-more h l)
 
@@ -117,25 +117,29 @@ module _ (b : List ℕ) (from : ℕ) (lent : List ℕ) where
       }
 
   module _ (i at : ℕ) (out : List ℕ) (P : Putting b from lent i at out) where
-    pub put-more : (m : ℕ) (out′ : List ℕ) → i < linesIn b → length (lineAt b i) ≤ length lent - at → m ≡ at + length (lineAt b i)
+    -- line i is written behind the others
+    more : (m : ℕ) (out′ : List ℕ) → i < linesIn b → length (lineAt b i) ≤ length lent - at → m ≡ at + length (lineAt b i)
         → out′ ≡ overAt at (lineAt b i) out → Putting b from lent (i + 1) m out′
-    put-more m out′ h l e q =
+    more m out′ h l e q =
         let line = lineAt b i in
         let rest = partFrom b (i + 1) (length lent - m) in
         let room : length lent - at - length line ≡ length lent - m = omega arith in
-        let f : fits b i (length lent - at) ≡ suc (fits b (i + 1) (length lent - m)) = fits-more b i (length lent - at) h l ∙ ap₂ (λ (j k : ℕ). suc (fits b j k)) (sym (add-one i)) room in
-        let p : partFrom b i (length lent - at) ≡ line ++ rest = part-more b i (length lent - at) h l ∙ ap₂ (λ (j k : ℕ). line ++ partFrom b j k) (sym (add-one i)) room in
+        let f : fits b i (length lent - at) ≡ suc (fits b (i + 1) (length lent - m)) =
+        fits-more b i (length lent - at) h l ∙ ap₂ (λ (j k : ℕ). suc (fits b j k)) (sym (add-one i)) room in
+        let p : partFrom b i (length lent - at) ≡ line ++ rest =
+        part-more b i (length lent - at) h l ∙ ap₂ (λ (j k : ℕ). line ++ partFrom b j k) (sym (add-one i)) room in
+        let end : m ≤ length out = omega (arith, P .same, P .inside) in
         record {
-          same = ap length q ∙ length-overAt at line out (omega (arith, P .same, P .inside)) ∙ P .same;
+          same = ap length q ∙ length-overAt at line out (omega arith) ∙ P .same;
           inside = omega (arith, P .inside);
           next = omega (arith, f, P .next);
           size = omega (arith, ap length p, length-append line rest, P .size);
-          bytes = ap (overAt m rest) q ∙ behind at m line rest out e (omega (arith, P .same, P .inside)) ∙ ap (λ (x : List ℕ). overAt at x out) (sym p) ∙ P .bytes;
+          bytes = ap (overAt m rest) q ∙ behind at m line rest out e end ∙ ap (λ (x : List ℕ). overAt at x out) (sym p) ∙ P .bytes;
         }
 
     -- no line fits any more
-    pub put-all : (out′ : List ℕ) → fits b i (length lent - at) ≡ 0 → out′ ≡ overAt at [] out → Puts b from lent (record { next = i; size = at }) out′
-    put-all out′ e q =
+    all : (out′ : List ℕ) → fits b i (length lent - at) ≡ 0 → out′ ≡ overAt at [] out → Puts b from lent (record { next = i; size = at }) out′
+    all out′ e q =
         let p = part-none b i (length lent - at) e in
         record {
           next = omega (arith, P .next);
@@ -143,6 +147,24 @@ module _ (b : List ℕ) (from : ℕ) (lent : List ℕ) where
           bytes = q ∙ ap (λ (x : List ℕ). overAt at x out) (sym p) ∙ P .bytes;
         }
 
-pub nothing-over : (at : ℕ) (out : List ℕ) → out ≡ overAt at [] out
-unfolding overAt
-nothing-over at out = sym (take-append-drop at out)
+    -- past the last line
+    pub put-end : linesIn b ≤ i → Puts b from lent (record { next = i; size = at }) out
+    unfolding overAt
+    put-end h = all out (fits-end b i (length lent - at) h) (sym (take-append-drop at out))
+
+    -- the part behind the lines is lent to line i
+    module _ (r : LineAnswer) (left : List ℕ) (w : Writes [] (lineAt b i) (take (length out - at) (drop at out)) r left) where
+      room : length (take (length out - at) (drop at out)) ≡ length lent - at
+      room = ap length (part out at) ∙ length-drop at out ∙ ap (λ (n : ℕ). n - at) (P .same)
+
+      pub put-line : i < linesIn b → codeOf r ≡ 0 → (n : ℕ) → n ≡ sizeOf r
+          → Putting b from lent (i + 1) (at + n) (take at out ++ (left ++ drop (length out - at) (drop at out)))
+      put-line h e n q =
+          let v = wrote w e in
+          more (at + n) _ h (omega (arith, v .0, room)) (omega (arith, v .1)) (part-back out at (lineAt b i) left (v .2))
+
+      pub put-no-line : (codeOf r ≡ 0 → ⊥)
+          → Puts b from lent (record { next = i; size = at }) (take at out ++ (left ++ drop (length out - at) (drop at out)))
+      put-no-line n =
+          let v = left-out w n in
+          all _ (fits-none b i (length lent - at) (omega (arith, v .0, room))) (part-back out at [] left (v .1))

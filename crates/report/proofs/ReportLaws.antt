@@ -1,5 +1,5 @@
--- The report of a trail's bytes is that of the plain run with which they agree. It is its lines one behind the other, and so are
--- parts of them, each as long as there is room for. Assumes nothing.
+-- The report of a trail's bytes is that of the plain run with which they agree. It is its lines one behind the other, and so it is the
+-- parts that fit a buffer, one behind the other. Assumes nothing.
 use Prim.Native.Nat.{ℕ, zero, suc, _+_, _*_, _-_, _/_, _%_, _<_, _≤_}
 use mathlib.Core.Bool.{Bool, true, false}
 use mathlib.Core.Path.{_≡_, refl, ap, ap₂, sym, _∙_}
@@ -21,9 +21,12 @@ use Rattle.report.proofs.LineLaws.{line-trail, line-place, line-act, li
 use Rattle.report.proofs.PutLaws.{fits-le}
 use Rattle.report.proofs.SizeLaws.{some-fits}
 
+joined : {a b c d : List ℕ} → a ≡ c → b ≡ d → a ++ b ≡ c ++ d
+joined = ap₂ (λ (u v : List ℕ). u ++ v)
+
 text-same : {A : Type 0} (f g : A → List ℕ) (xs : List A) → All (λ (x : A). f x ≡ g x) xs → textOf f xs ≡ textOf g xs
 text-same f g [] a = refl
-text-same f g (x ∷ xs) a = ap₂ (λ (u v : List ℕ). u ++ v) (a .0) (text-same f g xs (a .1))
+text-same f g (x ∷ xs) a = joined (a .0) (text-same f g xs (a .1))
 
 -- texts of the numbers below n, and of the pairs of such numbers, that are the same one by one
 below : (f g : ℕ → List ℕ) (n : ℕ) → ((i : ℕ) → i < n → f i ≡ g i) → textOf f (upto n 0) ≡ textOf g (upto n 0)
@@ -56,16 +59,16 @@ module _ (b : List ℕ) (p : Plain) (A : Agrees (netAt b) (stateAt b) p) where
   pub report-agrees : reportAt b ≡ reportOf (netAt b) p
   unfolding reportAt reportOf
   report-agrees =
-      ap₂ (λ (u v : List ℕ). u ++ v) trail-agrees
-      (ap₂ (λ (u v : List ℕ). u ++ v) (below (placeLineAt b) (placeLineOf (netAt b) p) (netAt b .places) place-agrees)
-      (ap₂ (λ (u v : List ℕ). u ++ v) (below (actLineAt b) (actLineOf (netAt b) p) (netAt b .acts) act-agrees)
+      joined trail-agrees
+      (joined (below (placeLineAt b) (placeLineOf (netAt b) p) (netAt b .places) place-agrees)
+      (joined (below (actLineAt b) (actLineOf (netAt b) p) (netAt b .acts) act-agrees)
       (pairs-below (pairLineAt b) (jumpLineOf (netAt b) p) (netAt b .places) jump-agrees)))
 
--- the same texts by other numbers
+-- texts of numbers, of numbers that are d higher, of images, and one behind the other
 text-shift : (f g : ℕ → List ℕ) (d n i j : ℕ) → j ≡ d + i → ((k l : ℕ) → l ≡ d + k → k < i + n → g k ≡ f l) → textOf f (upto n j) ≡ textOf g (upto n i)
 text-shift f g d zero i j e h = refl
 text-shift f g d (suc n) i j e h =
-    ap₂ (λ (u v : List ℕ). u ++ v) (sym (h i j e (omega arith))) (text-shift f g d n (suc i) (suc j) (omega arith) (λ k l q m. h k l q (omega arith)))
+    joined (sym (h i j e (omega arith))) (text-shift f g d n (suc i) (suc j) (omega arith) (λ k l q m. h k l q (omega arith)))
 
 text-map : (f : ℕ × ℕ → List ℕ) (g : ℕ → ℕ × ℕ) (xs : List ℕ) → textOf f (map g xs) ≡ textOf (λ (i : ℕ). f (g i)) xs
 text-map f g [] = refl
@@ -87,6 +90,9 @@ module _ (b : List ℕ) where
   abbrev A : ℕ
   A = netAt b .acts
 
+  first-line : linesFrom b 1 0 ≡ trailLineAt b
+  first-line = append-nil (lineAt b 0) ∙ sym (line-trail b 0 refl)
+
   place-lines : (j : ℕ) → j ≡ 1 → linesFrom b P j ≡ textOf (placeLineAt b) (upto P 0)
   place-lines j e = text-shift (lineAt b) (placeLineAt b) 1 P 0 j (omega arith) (λ k l q h. line-place b l k q (omega arith))
 
@@ -103,10 +109,11 @@ module _ (b : List ℕ) where
   unfolding reportAt linesOn
   report-lines =
       sym (lines-join (1 + P + A) (P * P) 0
-      ∙ ap₂ (λ (u v : List ℕ). u ++ v) (lines-join (1 + P) A 0 ∙ ap₂ (λ (u v : List ℕ). u ++ v) (lines-join 1 P 0 ∙ ap₂ (λ (u v : List ℕ). u ++ v) (append-nil (lineAt b 0) ∙ sym (line-trail b 0 refl)) (place-lines (1 + 0) refl)) (act-lines (1 + P + 0) (omega arith))) (pair-lines (1 + P + A + 0) (omega arith))
+      ∙ joined (lines-join (1 + P) A 0 ∙ joined (lines-join 1 P 0 ∙ joined first-line (place-lines (1 + 0) refl)) (act-lines (1 + P + 0) (omega arith)))
+      (pair-lines (1 + P + A + 0) (omega arith))
       ∙ simp append-assoc)
 
--- parts with room for a line give the whole report
+-- parts with room for a line are the whole report, one behind the other
 module _ (w b : List ℕ) (R : Ready w b) (room : ℕ) (h : 113 ≤ room) where
   parts-from : (times i : ℕ) → i ≤ linesIn b → linesIn b - i ≤ times → partsFrom b room times i ≡ linesFrom b (linesIn b - i) i
   unfolding partFrom

@@ -1,18 +1,18 @@
 -- No line has more than 113 bytes, so that many bytes have room for a line. Assumes nothing.
 use Prim.Native.Nat.{ℕ, zero, suc, _+_, _*_, _-_, _/_, _%_, _^_, _≤_, _<_}
 use mathlib.Core.Bool.{Bool, true, false}
-use mathlib.Core.Path.{_≡_, refl, ap, sym, subst}
+use mathlib.Core.Path.{_≡_, refl, sym, subst}
 use mathlib.Core.List.{List, [], _∷_, _++_}
 use native.Mathlib.Nat.{mul-le-mul, pow-suc}
 use native.Mathlib.Omega.{arith}
 use lib.Dec.{eqb, ltb}
-use lib.ListN.{length, getD, length-append}
+use lib.ListN.{length, length-append}
 use borrow.Author.Tests.{ltb-true, ltb-false}
 use Rattle.words.specs.Lists.{pick, All, one, total}
 use Rattle.net.specs.Net.{Net, Loaded}
 use Rattle.net.specs.Held.{netIn}
 use Rattle.replay.specs.State.{storedConsumed, storedPair, sunkOn}
-use Rattle.replay.specs.Calls.{netAt, stateAt}
+use Rattle.replay.specs.Calls.{stateAt}
 use Rattle.replay.specs.Ready.{Ready}
 use Rattle.replay.proofs.RecordLaws.{ready-loaded, ready-sound}
 use Rattle.counts.proofs.CountLaws.{closed-le, closing-few, objects-few, fired-few, jumps-few, moved-few, pair-few, in-few, out-few, taken-few, jumps-sum-few, moved-sum-few}
@@ -43,7 +43,7 @@ digits-few (suc f) k n h = go k h (ltb n 10) refl (digits-few f)
     go zero h false e r = absurd (omega (arith, ltb-false n 10 e))
     go (suc k) h false e r = simp length-append (omega (arith, r k (n / 10) (omega (arith, pow-suc 10 (suc k)))))
 
--- how long a field and a word can be
+-- how long a field, a word and a line can be
 number-short : (n : ℕ) → n < 4294967296 → length (fieldText (field.Number n)) ≤ 21
 unfolding decimal
 number-short n h = omega (arith, digits-few (suc n) 19 n (omega arith))
@@ -76,6 +76,7 @@ five-short w k l m n j t hk hl hm hn =
     line-short w (field.Number k ∷ field.Number l ∷ field.Number m ∷ field.Number n ∷ field.Fitness j t ∷ [])
     (number-short k hk, (number-short l hl, (number-short m hm, (number-short n hn, (fitness-short j t, tt))))) (omega arith)
 
+-- how many elements pass a test
 ones-few : (f : ℕ → Bool) (xs : List ℕ) → total (λ (x : ℕ). one (f x)) xs ≤ length xs
 ones-few f [] = omega arith
 ones-few f (x ∷ xs) = go (f x) (ones-few f xs)
@@ -91,6 +92,7 @@ module _ (w b : List ℕ) (R : Ready w b) where
   abbrev L : Loaded (netIn w)
   L = ready-loaded w b R
 
+  -- the lines of a trail
   consumed-few : (q : ℕ) → storedConsumed (netIn w) (stateAt b) q < 4294967296
   consumed-few q =
       let s : sunkOn N (stateAt b .kinds) q ≤ 1024 = omega (arith, ones-few (λ (k : ℕ). eqb q (N .sink k)) (stateAt b .kinds), objects-few w b R) in
@@ -135,9 +137,10 @@ module _ (w b : List ℕ) (R : Ready w b) where
       go false true e f = act-short (i - N .places) (ltb-true (i - N .places) (N .acts) f)
       go false false e f =
           let k = i - N .places - N .acts in
-          let l : k < N .places * N .places = omega (arith, ltb-false i (N .places) e, ltb-false (i - N .places) (N .acts) f, subst (λ (N : Net). suc i < 1 + N .places + N .acts + N .places * N .places) (sym (R .net)) h) in
+          let h′ : suc i < linesOn N = subst (λ (N : Net). suc i < linesOn N) (sym (R .net)) h in
+          let l : k < N .places * N .places = omega (arith, ltb-false i (N .places) e, ltb-false (i - N .places) (N .acts) f) in
           pair-short (k / N .places) (k % N .places) (row-lt (N .places) k l) (column-lt (N .places) k l)
 
-  -- one line fits at least
+  -- so one line fits at least
   pub some-fits : (i room : ℕ) → i < linesIn b → 113 ≤ room → 0 < fits b i room
   some-fits i room h l = let s = lines-short i h in omega (arith, fits-more b i room h (omega arith))

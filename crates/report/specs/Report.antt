@@ -83,14 +83,14 @@ fits b i room = fitting b (linesIn b - i) i room
 unfoldable pub partFrom : List ℕ → ℕ → ℕ → List ℕ
 partFrom b i room = linesFrom b (fits b i room) i
 
--- putting the lines from line i on into the bytes `lent` is answered r and leaves `left`: the number of the first line that
--- did not fit, or of none, how many bytes the lines before it take, and these lines over the bytes
+-- putting the lines from line i on into the bytes `lent` is answered r and leaves `left`: the number of the line behind those
+-- that fit, how many bytes these take, and these in front of the other bytes, which stay as they were
 pub record Puts (b : List ℕ) (i : ℕ) (lent : List ℕ) (r : Part) (left : List ℕ) : Type 0 where
   pub next : r .next ≡ i + fits b i (length lent)
   pub size : r .size ≡ length (partFrom b i (length lent))
   pub bytes : left ≡ over (partFrom b i (length lent)) lent
 
--- what one comes by who puts parts of `room` bytes one behind the other from line i on, so many times
+-- what is put into a buffer of `room` bytes so many times, from line i on and each time from where the last part ends
 abbrev pub partsFrom : List ℕ → ℕ → ℕ → ℕ → List ℕ
 partsFrom b room zero i = []
 partsFrom b room (suc times) i = partFrom b i room ++ partsFrom b room times (i + fits b i room)

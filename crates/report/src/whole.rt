@@ -30,7 +30,7 @@ pub fn line_count(t: &[u32; 1684]) -> u32
     1 + places + acts + places * places
 }
 
-// Line i.
+// Line i of the report.
 fn line(rec: &[u8], t: &[u32; 1684], i: u32, out: &mut [u8]) -> LineAnswer
     requires { ⌜ Ready (now t) (now rec) ⌝ }
     requires { ⌜ i < linesIn (now rec) ⌝ }

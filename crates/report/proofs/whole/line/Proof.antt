@@ -1,4 +1,4 @@
--- Line by line as the report has them: each is the line of a known place, activity or pair. Assumes nothing.
+-- The line is the trail's, or that of a known place, activity or pair. Assumes nothing.
 use Prim.Native.Nat.{ℕ, _*_, _-_, _/_, _%_, _<_}
 use mathlib.Core.Path.{_≡_, ap, _∙_}
 use native.Mathlib.Omega.{arith}

@@ -1,22 +1,19 @@
 -- The invariant: what is still to be put, over the bytes as they are now, completes the lines over the bytes at entry.
 -- The measure is how many lines are left.
 -- Assumes nothing.
-use Prim.Native.Nat.{ℕ, _+_, _-_, _≤_, _<_}
+use Prim.Native.Nat.{_-_}
 use mathlib.Core.Logic.{⊎-elim}
-use mathlib.Core.Path.{_≡_, refl, ap, sym, _∙_}
-use mathlib.Core.List.{List, [], _∷_}
+use mathlib.Core.Path.{_≡_, ap, sym, _∙_}
+use mathlib.Core.List.{[], _∷_}
 use native.Mathlib.Omega.{arith}
-use lib.ListN.{length, take, drop, length-drop}
 use types.Run.{OneOf}
 use denote.Enum.Declared.{tagOf}
-use Rattle.net.specs.Net.{Net}
-use Rattle.words.proofs.Over.{part, part-back}
 use Rattle.lines.specs.Answer.{codeOf, sizeOf}
 use Rattle.lines.specs.declared.LineAnswer.{LineAnswer}
 use Rattle.lines.specs.declared.LineAnswer.the-variants.{Written, UnknownPlace, UnknownActivity, NoRoom}
 use Rattle.lines.proofs.LineAnswer.{the-type}
-use Rattle.report.specs.Report.{linesOn, linesIn, lineAt}
-use Rattle.report.proofs.PutLaws.{wrote, left-out, fits-end, fits-none, Putting, putting, put-more, put-all, nothing-over}
+use Rattle.report.specs.Report.{linesOn, linesIn}
+use Rattle.report.proofs.PutLaws.{Putting, putting, put-line, put-no-line, put-end}
 use borrow.Author.Needs.{needs}
 use Rattle.report.proofs.whole.put_lines.Statement.{statement}
 use Rattle.report.proofs.whole.put_lines.Tie as tie
@@ -33,18 +30,6 @@ not-written (Written n) k e = ⊎-elim (λ e. omega arith) (λ k. ⊎-elim (λ e
 not-written UnknownPlace k e = omega arith
 not-written UnknownActivity k e = omega arith
 not-written NoRoom k e = omega arith
-
--- how long the lent part is
-room : (out : List ℕ) (at : ℕ) → length (take (length out - at) (drop at out)) ≡ length out - at
-room out at = ap length (part out at) ∙ length-drop at out
-
--- the line that was written
-put : (c : tie.After-size Inv-loop μ-loop) → (length (lineAt (c .before .before .before .before .before .before .before .before .before .before .before .args .rec .now) (c .before .before .before .before .before .before .before .loop .i)) ≤ length (c .before .before .before .before .before .before .before .before .before .before .before .args .out .now) - c .before .before .before .before .before .before .before .loop .at) × (c .size .given .0 .0 ≡ length (lineAt (c .before .before .before .before .before .before .before .before .before .before .before .args .rec .now) (c .before .before .before .before .before .before .before .loop .i)))
-put c =
-    let l = c .before .before .before .before .before .before .before .loop in
-    let told = c .size .given .1 in
-    let w = wrote (c .before .before .before .before .line .ensures) (ap codeOf told) in
-    (omega (arith, w .0, room (l .out) (l .at), l .inv .1 .same), sym (ap sizeOf told) ∙ w .1)
 
 line-count-requires : tie.Need-line-count-requires Inv-loop μ-loop
 line-count-requires c κs = c .before .before .pre .held
@@ -74,30 +59,27 @@ returns : tie.Need-returns Inv-loop μ-loop
 returns c =
     let a = c .before .before .before .before .before .before .before .before .before .before .args in
     let l = c .before .before .before .before .before .before .loop in
-    let w = left-out (c .before .before .before .line .ensures) (not-written (c .before .before .before .line .result) (c .match .keys2)) in
-    put-all (a .rec .now) (a .from) (a .out .now) (l .i) (l .at) (l .out) (l .inv .1) _
-    (fits-none (a .rec .now) (l .i) _ (omega (arith, w .0, room (l .out) (l .at), l .inv .1 .same)))
-    (part-back (l .out) (l .at) [] _ (w .1))
+    let r = c .before .before .before .line in
+    put-no-line (a .rec .now) (a .from) (a .out .now) (l .i) (l .at) (l .out) (l .inv .1) (r .result) _ (r .ensures) (not-written (r .result) (c .match .keys2))
 
+loop-again : tie.Need-loop-again Inv-loop μ-loop
+loop-again c =
+    let a = c .before .before .before .before .before .before .before .before .before .before .before .before .args in
+    let l = c .before .before .before .before .before .before .before .before .loop in
+    let told = c .before .size .given .1 in (
+      l .inv .0,
+      put-line (a .rec .now) (a .from) (a .out .now) (l .i) (l .at) (l .out) (l .inv .1) _ _ (c .before .before .before .before .before .line .ensures) (omega arith) (ap codeOf told) _ (sym (ap sizeOf told)),
+    )
+
+-- the next line starts inside the lent part
 add-at : tie.Need-add-at Inv-loop μ-loop
-add-at c = omega (arith, put (c .before), c .before .before .before .before .before .before .before .before .loop .inv .1 .inside)
+add-at c = omega (arith, loop-again c .1 .inside)
 
 add-i : tie.Need-add-i Inv-loop μ-loop
 add-i c = omega arith
 
 loop-less : tie.Need-loop-less Inv-loop μ-loop
 loop-less c = omega arith
-
-loop-again : tie.Need-loop-again Inv-loop μ-loop
-loop-again c =
-    let a = c .before .before .before .before .before .before .before .before .before .before .before .before .args in
-    let l = c .before .before .before .before .before .before .before .before .loop in
-    let w = wrote (c .before .before .before .before .before .line .ensures) (ap codeOf (c .before .size .given .1)) in
-    let p = put (c .before) in (
-      l .inv .0,
-      put-more (a .rec .now) (a .from) (a .out .now) (l .i) (l .at) (l .out) (l .inv .1) _ _ (omega arith) (p .0) (omega (arith, p .1))
-          (part-back (l .out) (l .at) (lineAt (a .rec .now) (l .i)) _ (w .2)),
-    )
 
 same-length-2 : tie.Need-same-length-2 Inv-loop μ-loop
 same-length-2 c = omega arith
@@ -106,8 +88,7 @@ returns-2 : tie.Need-returns-2 Inv-loop μ-loop
 returns-2 c =
     let a = c .before .before .before .before .before .args in
     let l = c .before .loop in
-    put-all (a .rec .now) (a .from) (a .out .now) (l .i) (l .at) (l .out) (l .inv .1) _
-    (fits-end (a .rec .now) (l .i) _ (omega arith)) (nothing-over (l .at) (l .out))
+    put-end (a .rec .now) (a .from) (a .out .now) (l .i) (l .at) (l .out) (l .inv .1) (omega arith)
 
 pub put-lines-spec : {M : Type 1} → statement M
 put-lines-spec =
