@@ -1,4 +1,7 @@
 pub mod TrailLaws
-mod NextLaws
+mod PairIndex
+mod LineLaws
+pub mod PutLaws
+pub mod SizeLaws
 pub mod ReportLaws
 pub mod RowsHold

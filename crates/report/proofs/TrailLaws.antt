@@ -1,15 +1,14 @@
 -- The counts that were read from a trail are those of its lines. Assumes nothing.
-use Prim.Native.Nat.{ℕ, _<_}
+use Prim.Native.Nat.{ℕ}
 use mathlib.Core.Bool.{Bool, true, false}
 use mathlib.Core.Path.{_≡_, ap}
 use mathlib.Core.List.{List}
 use native.Mathlib.Omega.{arith}
 use lib.Dec.{leb}
-use borrow.Author.Tests.{lt-leb}
 use Rattle.words.specs.Lists.{pick}
 use Rattle.replay.specs.State.{storedPair}
 use Rattle.replay.specs.Calls.{netAt, stateAt}
-use Rattle.counts.specs.Reads.{placeRead, actRead, pairRead, pairCode, trailRead}
+use Rattle.counts.specs.Reads.{placeRead, actRead, pairRead, trailRead}
 use Rattle.counts.specs.declared.PlaceCounts.{PlaceCounts}
 use Rattle.counts.specs.declared.PlaceRead.the-variants as place
 use Rattle.counts.specs.declared.ActCounts.{ActCounts}
@@ -54,7 +53,3 @@ module _ (b : List ℕ) where
   pub pair-count : (x y n : ℕ) → pairRead b x y ≡ pair.Count n → jumpLine x y n ≡ jumpLineAt b x y
   unfolding jumpLineAt
   pair-count x y n e = ap (jumpLine x y) (pair-stored x y n e)
-
-  pub pair-known : (x y : ℕ) → x < netAt b .places → y < netAt b .places → pairCode b x y ≡ 0
-  unfolding pairCode
-  pair-known x y h k = rw (lt-leb (netAt b .places) x h, lt-leb (netAt b .places) y k)

@@ -1,4 +1,5 @@
-// The report (the sheet) of a trail in lent bytes: its lines, and the pairs of places with jumps one after the other.
+// The report (the sheet) of a trail in lent bytes: its lines one by one, and all of them one behind the other.
 // Above `counts`, which reads the numbers, and `lines`, which writes them.
 
 pub mod trail;
+pub mod whole;

@@ -8,23 +8,11 @@ use counts::read_pair;
 use counts::read_place;
 use counts::read_trail;
 use lines::LineAnswer;
-ghost use mathlib.Core.Path.{_≡_};
 ghost use mathlib.Core.List.{[]};
-ghost use Prim.Native.Nat.{_*_, _<_};
-ghost use lib.ListN.{getD};
-ghost use Rattle.net.specs.Held.{netIn};
-ghost use Rattle.replay.specs.Calls.{stateAt};
 ghost use Rattle.replay.specs.Ready.{Ready};
 ghost use Rattle.counts.specs.Reads.{placeTests, actTests, pairTests};
 ghost use Rattle.lines.specs.Answer.{Writes};
-ghost use Rattle.report.specs.TrailLines.{trailLineAt, placeLineAt, actLineAt, jumpLineAt, nextJump};
-
-// The next pair of places that has jumps.
-pub enum NextJump {
-    Done,
-    // Its two places, and where to look for the one after it.
-    Pair(u32, u32, u32),
-}
+ghost use Rattle.report.specs.TrailLines.{trailLineAt, placeLineAt, actLineAt, jumpLineAt};
 
 // The line of the whole trail, of an open one too.
 pub fn trail_line(rec: &[u8], t: &[u32; 1684], out: &mut [u8]) -> LineAnswer
@@ -66,34 +54,4 @@ pub fn jump_line(rec: &[u8], t: &[u32; 1684], from: u32, to: u32, out: &mut [u8]
         PairRead::Unknown => LineAnswer::UnknownPlace,
         PairRead::Count(n) => lines::jump_line(from, to, n, out),
     }
-}
-
-// The jump count of the pair with index i, row by row.
-fn count_at(rec: &[u8], t: &[u32; 1684], places: u32, i: u32) -> u32
-    requires { ⌜ Ready (now t) (now rec) ⌝ }
-    requires { ⌜ (places ≡ netIn (now t) .places) × (i < places * places) ⌝ }
-    ensures { λ r. ⌜ r ≡ getD (stateAt (now (rec .entry)) .pairs) i 0 ⌝ }
-{
-    match read_pair(rec, t, i / places, i % places) {
-        PairRead::Unknown => 0,
-        PairRead::Count(n) => n,
-    }
-}
-
-// The first pair with jumps from index i on, pairs being counted row by row: from 0 on, and each time from where the last
-// answer says, it gives every pair with jumps once. The order of the lines is free in document 01; this one is ascending.
-pub fn next_jump(rec: &[u8], t: &[u32; 1684], i: u32) -> NextJump
-    requires { ⌜ Ready (now t) (now rec) ⌝ }
-    ensures { λ r. ⌜ r ≡ nextJump (now (rec .entry)) i ⌝ }
-{
-    let places = net::look::places(t) as u32;
-    let n = places * places;
-    let mut k = i;
-    while k < n {
-        if count_at(rec, t, places, k) != 0 {
-            return NextJump::Pair(k / places, k % places, k + 1);
-        }
-        k += 1;
-    }
-    NextJump::Done
 }

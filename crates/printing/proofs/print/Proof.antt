@@ -1,68 +1,77 @@
--- The first line fits the buffer, and the others leave the end of all lines inside it. Assumes nothing.
+-- The buffer has room for a line, so each turn prints one line or more. The measure is how many lines are left. Assumes nothing.
+use Prim.Native.Nat.{_-_, _≤_}
+use mathlib.Core.Path.{_≡_, ap, sym, _∙_}
 use native.Mathlib.Omega.{arith}
-use lib.ListN.{length-take}
-use Rattle.printing.proofs.Written.{line-fits}
+use lib.ListN.{length, length-take}
+use Rattle.report.specs.Report.{linesOn, linesIn}
+use Rattle.report.proofs.PutLaws.{part-fits}
+use Rattle.report.proofs.SizeLaws.{some-fits}
 use borrow.Author.Needs.{needs}
 use Rattle.printing.proofs.print.Statement.{statement}
 use Rattle.printing.proofs.print.Tie as tie
 
-buffer-requires : tie.Need-buffer-requires
+abbrev Inv-loop : tie.InvT-loop
+Inv-loop rec t out₀ n i₀ out i = (n ≡ linesIn rec) × (length out ≡ 4096)
+
+abbrev μ-loop : tie.MeasureT-loop
+μ-loop rec t out₀ n i₀ out i = n - i
+
+-- the lines fit the buffer
+fits : (c : tie.After-put-lines Inv-loop μ-loop) → c .put-lines .result .size ≤ 4096
+fits c =
+    let l = c .before .before .before .loop in
+    omega (arith, c .put-lines .ensures .size, part-fits (c .before .before .before .before .before .before .before .args .rec .now) (l .i) (length (l .out)), l .inv .1)
+
+buffer-requires : tie.Need-buffer-requires Inv-loop μ-loop
 buffer-requires c κs = search needs
 
-slice-aggregate-trail-line : tie.Need-slice-aggregate-trail-line
-slice-aggregate-trail-line c = search needs
+line-count-requires : tie.Need-line-count-requires Inv-loop μ-loop
+line-count-requires c κs = c .before .before .pre .held
 
-trail-line-requires : tie.Need-trail-line-requires
-trail-line-requires c κs = search needs
+loop-holds : tie.Need-loop-holds Inv-loop μ-loop
+loop-holds c = (c .line-count .ensures ∙ ap linesOn (c .before .before .before .pre .net), sym (c .before .buffer .ensures))
 
-size-requires : tie.Need-size-requires
-size-requires c κs = search needs
+slice-aggregate-put-lines : tie.Need-slice-aggregate-put-lines Inv-loop μ-loop
+slice-aggregate-put-lines c = sym (c .before .before .loop .inv .1)
 
-slice-aggregate-put-places : tie.Need-slice-aggregate-put-places
-slice-aggregate-put-places c = search needs
+put-lines-requires : tie.Need-put-lines-requires Inv-loop μ-loop
+put-lines-requires c κs = c .before .before .before .before .before .before .pre
 
-put-places-requires : tie.Need-put-places-requires
-put-places-requires c κs = let k = line-fits _ _ _ _ _ (c .before .before .before .trail-line .ensures) (omega arith) in (c .before .before .before .before .before .before .before .pre, omega (arith, k))
+array-share-prefix-out : tie.Need-array-share-prefix-out Inv-loop μ-loop
+array-share-prefix-out c = omega (arith, fits (c .before), c .before .before .before .before .loop .inv .1)
 
-slice-aggregate-put-acts : tie.Need-slice-aggregate-put-acts
-slice-aggregate-put-acts c = search needs
+slice-aggregate-write-all : tie.Need-slice-aggregate-write-all Inv-loop μ-loop
+slice-aggregate-write-all c = simp length-take (omega (arith, fits (c .before .before), c .before .before .before .before .before .loop .inv .1))
 
-put-acts-requires : tie.Need-put-acts-requires
-put-acts-requires c κs = search needs
-
-slice-aggregate-put-jumps : tie.Need-slice-aggregate-put-jumps
-slice-aggregate-put-jumps c = search needs
-
-put-jumps-requires : tie.Need-put-jumps-requires
-put-jumps-requires c κs = search needs
-
-array-share-prefix-out : tie.Need-array-share-prefix-out
-array-share-prefix-out c = search needs
-
-slice-aggregate-write-all : tie.Need-slice-aggregate-write-all
-slice-aggregate-write-all c = simp length-take (omega arith)
-
-write-all-requires : tie.Need-write-all-requires
+write-all-requires : tie.Need-write-all-requires Inv-loop μ-loop
 write-all-requires c κs = search needs
 
-returns : tie.Need-returns
+loop-less : tie.Need-loop-less Inv-loop μ-loop
+loop-less c =
+    let s = c .before .before .before .before .before .before .before .before .before .before in
+    let l = c .before .before .before .before .before .before .loop in
+    omega (arith, c .before .before .before .put-lines .ensures .next, some-fits (s .args .t .now) (s .args .rec .now) (s .pre) (l .i) (length (l .out)) (omega arith) (omega (arith, l .inv .1)))
+
+loop-again : tie.Need-loop-again Inv-loop μ-loop
+loop-again c = (c .before .before .before .before .before .before .loop .inv .0, omega arith)
+
+returns : tie.Need-returns Inv-loop μ-loop
 returns c = search needs
 
 pub print-spec : {M : Type 1} → statement M
 print-spec =
     tie.close
     (tie.spec
+    Inv-loop
+    μ-loop
     buffer-requires
-    slice-aggregate-trail-line
-    trail-line-requires
-    size-requires
-    slice-aggregate-put-places
-    put-places-requires
-    slice-aggregate-put-acts
-    put-acts-requires
-    slice-aggregate-put-jumps
-    put-jumps-requires
+    line-count-requires
+    loop-holds
+    slice-aggregate-put-lines
+    put-lines-requires
     array-share-prefix-out
     slice-aggregate-write-all
     write-all-requires
+    loop-less
+    loop-again
     returns)
