@@ -1,16 +1,15 @@
 -- Bytes that stand where contents say: the layout test, the numbers of a span, and the bytes of those numbers. Assumes nothing.
 use Prim.Native.Nat.{ℕ, zero, suc, _+_, _*_, _≤_, _<_}
 use mathlib.Core.Bool.{Bool, true, false}
-use mathlib.Core.Path.{_≡_, refl, ap, ap₂, sym, _∙_}
+use mathlib.Core.Path.{_≡_, refl, ap, sym, _∙_}
 use mathlib.Core.List.{List, [], _∷_, _++_}
 use native.Mathlib.Omega.{arith}
-use native.Mathlib.Nat.{add-zero}
 use lib.ListN.{length, getD, take, drop, length-take, length-drop, take-append-drop}
 use lib.Seq.{drop-drop, getD-drop}
 use lib.Dec.{eqb}
 use borrow.Author.Tests.{eqb-true, eq-eqb}
 use Rattle.words.specs.Lists.{pick}
-use Rattle.words.specs.Words.{word, wordsAt, wordsOf, bytesOf, bodiesFrom, endsAt}
+use Rattle.words.specs.Words.{word, wordsAt, bytesOf, bodiesFrom, endsAt}
 use Rattle.words.specs.declared.Bodies.the-variants.{Gap}
 use Rattle.words.proofs.Lists.{clash}
 use Rattle.words.proofs.Words.{length-words, words-take, words-read, bytes-of-words}

@@ -1,9 +1,9 @@
 -- No line has more than 113 bytes, so that many bytes have room for a line. Assumes nothing.
-use Prim.Native.Nat.{ℕ, zero, suc, _+_, _*_, _-_, _/_, _%_, _^_, _≤_, _<_}
+use Prim.Native.Nat.{ℕ, zero, suc, _+_, _*_, _-_, _/_, _%_, _≤_, _<_}
 use mathlib.Core.Bool.{Bool, true, false}
 use mathlib.Core.Path.{_≡_, refl, sym, subst}
-use mathlib.Core.List.{List, [], _∷_, _++_}
-use native.Mathlib.Nat.{mul-le-mul, pow-suc}
+use mathlib.Core.List.{List, [], _∷_}
+use native.Mathlib.Nat.{mul-le-mul}
 use native.Mathlib.Omega.{arith}
 use lib.Dec.{eqb, ltb}
 use lib.ListN.{length, length-append}
@@ -16,7 +16,7 @@ use Rattle.replay.specs.Calls.{stateAt}
 use Rattle.replay.specs.Ready.{Ready}
 use Rattle.replay.proofs.RecordLaws.{ready-loaded, ready-sound}
 use Rattle.counts.proofs.CountLaws.{closed-le, closing-few, objects-few, fired-few, jumps-few, moved-few, pair-few, in-few, out-few, taken-few, jumps-sum-few, moved-sum-few}
-use Rattle.text.specs.Decimal.{digitsIn, decimal}
+use Rattle.text.proofs.DecimalLaws.{short}
 use Rattle.text.specs.Fitness.{fitness, fitnessText}
 use Rattle.text.specs.Fields.{wordText, fieldText}
 use Rattle.text.specs.declared.fitness.Fitness.{Fitness}
@@ -32,21 +32,9 @@ use Rattle.report.specs.Report.{linesOn, linesIn, lineAt, fits}
 use Rattle.report.proofs.PairIndex.{row-lt, column-lt}
 use Rattle.report.proofs.PutLaws.{fits-more}
 
--- a number below a power of ten has at most as many digits as the power has zeros
-digits-few : (f k n : ℕ) → n < 10 ^ suc k → length (digitsIn f n) ≤ suc k
-digits-few zero k n h = omega arith
-digits-few (suc f) k n h = go k h (ltb n 10) refl (digits-few f)
-  where
-    go : (k : ℕ) → n < 10 ^ suc k → (t : Bool) → ltb n 10 ≡ t → ((k n : ℕ) → n < 10 ^ suc k → length (digitsIn f n) ≤ suc k)
-        → length (pick t ((48 + n) ∷ []) (digitsIn f (n / 10) ++ ((48 + n % 10) ∷ []))) ≤ suc k
-    go k h true e r = omega arith
-    go zero h false e r = absurd (omega (arith, ltb-false n 10 e))
-    go (suc k) h false e r = simp length-append (omega (arith, r k (n / 10) (omega (arith, pow-suc 10 (suc k)))))
-
 -- how long a field, a word and a line can be
 number-short : (n : ℕ) → n < 4294967296 → length (fieldText (field.Number n)) ≤ 21
-unfolding decimal
-number-short n h = omega (arith, digits-few (suc n) 19 n (omega arith))
+number-short n h = omega (arith, short 19 n (omega arith))
 
 fitness-short : (jumps transfers : ℕ) → length (fieldText (field.Fitness jumps transfers)) ≤ 21
 fitness-short jumps transfers = omega (arith, go (fitness jumps transfers))

@@ -1,2 +1,2 @@
-mod DecimalLaws
+pub mod DecimalLaws
 mod FitnessLaws

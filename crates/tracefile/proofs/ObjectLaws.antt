@@ -1,12 +1,11 @@
 -- The objects of an event, in bytes and as numbers stored over an array of eight. Assumes nothing.
 use Prim.Native.Nat.{ℕ, zero, suc, _+_, _*_, _≤_}
-use mathlib.Core.Path.{_≡_, refl, ap, ap₂, subst, _∙_}
+use mathlib.Core.Path.{_≡_, refl, subst, _∙_}
 use mathlib.Core.List.{List, [], _∷_}
-use native.Mathlib.Nat.{add-zero}
 use native.Mathlib.Omega.{arith}
 use lib.Dec.{leb}
-use lib.ListN.{length, take, drop, replicate, length-drop}
-use lib.Seq.{sets, drop-drop, getD-drop}
+use lib.ListN.{length, take, drop, replicate}
+use lib.Seq.{sets}
 use Rattle.words.specs.Lists.{pick}
 use Rattle.words.specs.Words.{word, wordsOf, wordsAt}
 use Rattle.words.proofs.Words.{words-take, words-read}

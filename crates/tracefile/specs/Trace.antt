@@ -1,5 +1,5 @@
 -- The events of a trail file (document 01 "Trail file, program, sheet"), the body behind its register: reading at a position.
-use Prim.Native.Nat.{ℕ, zero, suc, _+_, _*_}
+use Prim.Native.Nat.{ℕ, _+_, _*_}
 use mathlib.Core.Bool.{Bool}
 use mathlib.Core.List.{List, [], _∷_, _++_}
 use lib.ListN.{length, take, drop, replicate}

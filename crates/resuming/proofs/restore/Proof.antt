@@ -1,5 +1,5 @@
 -- A refusal is the check's and changes nothing; where there is none, the record is put into the trail. Assumes nothing.
-use mathlib.Core.Path.{sym, _∙_}
+use mathlib.Core.Path.{_∙_}
 use borrow.Author.Tests.{ne-eqb}
 use Rattle.resuming.proofs.Opening.{take-refused}
 use borrow.Author.Needs.{needs}
