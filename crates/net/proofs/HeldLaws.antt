@@ -119,9 +119,6 @@ module _ (w : List ℕ) (H : Held w) where
       (sym table-net)
       (λ a k h g. ap (λ (v : List ℕ). getD v (1172 + 8 * a + k) 0) (H .words) ∙ loaded-index (H .table) (H .before) (H .size) (H .taken) a k h g)
 
-  pub index-none : (a k : ℕ) → a < netIn w .acts → k < netIn w .kinds → takes (netIn w) a k ≡ false → getD w (1172 + 8 * a + k) 0 ≡ 0
-  index-none a k h g e = index-at a k h g ∙ rw e
-
   pub index-some : (a k : ℕ) → a < netIn w .acts → k < netIn w .kinds → takes (netIn w) a k ≡ true
       → getD w (1172 + 8 * a + k) 0 ≡ pack (inputOf (netIn w) a k, outputOf (netIn w) a k)
   index-some a k h g e = index-at a k h g ∙ rw e
