@@ -2,7 +2,7 @@
 // number, and that the lent words are as they were, or some of what is looked up in them.
 
 use crate::read::find;
-use crate::read::numbers;
+use crate::read::read_head;
 use crate::show::load;
 use crate::show::text;
 use crate::table::chain;
@@ -15,88 +15,64 @@ mod read;
 mod show;
 mod table;
 
-// The table in b: number `from` of v says how many of its bytes are loaded, and the pairs behind it what is put into it before.
-fn attempt(
-    b: &mut [u8; 4800],
-    v: &[u32; 40],
-    from: usize,
-    n: usize,
-    label: &[u8],
-    whole: bool,
-) -> bool
-    requires { ⌜ (from ≤ 4) × (n ≤ 40) ⌝ }
-{
-    if !edit(b, v, from + 1, n) {
-        return false;
+// Builds the table that the first letter names, over table M, from the first numbers of v. Gives how many it took, or 40 where it
+// cannot be built.
+fn build(b: &mut [u8; 4800], letter: u8, v: &[u32; 40]) -> usize {
+    match letter {
+        b'M' | b'w' => 0,
+        b's' => if sized(b, v[0], v[1], v[2], v[3]) {
+            4
+        } else {
+            40
+        },
+        b'c' => if chain(b, v[0]) { 1 } else { 40 },
+        _ => 40,
     }
-    let size = wide(v[from]);
+}
+
+// Loads the first `size` bytes of b and writes the line. False where there are not so many.
+fn attempt(b: &[u8; 4800], size: usize, label: &[u8], whole: bool) -> bool {
     if 4800 < size {
         return false;
     }
-    let t: &[u8] = b;
+    let s: &[u8] = b;
     text(label);
-    load(&t[0..size], whole);
+    load(&s[0..size], whole);
     true
 }
 
-// A case of table M, which the lines with a t have put together.
-fn of_m(m: &[u8; 4800], v: &[u32; 40], n: usize, label: &[u8], whole: bool) -> bool
-    requires { ⌜ n ≤ 40 ⌝ }
-{
-    let mut b = *m;
-    attempt(&mut b, v, 0, n, label, whole)
-}
-
-// A case of a table of so many kinds, places, activities, and arcs of each activity.
-fn of_sizes(v: &[u32; 40], n: usize, label: &[u8]) -> bool
-    requires { ⌜ n ≤ 40 ⌝ }
-{
-    let mut b = [0u8; 4800];
-    if !sized(&mut b, v[0], v[1], v[2], v[3]) {
-        return false;
-    }
-    attempt(&mut b, v, 4, n, label, false)
-}
-
-// A case of a chain of so many links.
-fn of_chain(v: &[u32; 40], n: usize, label: &[u8]) -> bool
-    requires { ⌜ n ≤ 40 ⌝ }
-{
-    let mut b = [0u8; 4800];
-    if !chain(&mut b, v[0]) {
-        return false;
-    }
-    attempt(&mut b, v, 1, n, label, false)
-}
-
-// The line whose first letter, numbers and label these are. False where they are no case.
+// The case whose first letter, numbers and label these are. Behind the numbers that the table is built from stands how many of
+// its bytes are loaded, then what is put into it before. A t puts that into table M itself. False where it is no case.
 fn case(m: &mut [u8; 4800], letter: u8, v: &[u32; 40], n: usize, label: &[u8]) -> bool
     requires { ⌜ n ≤ 40 ⌝ }
 {
-    match letter {
-        b't' => edit(m, v, 0, n),
-        b'M' => of_m(m, v, n, label, false),
-        b'w' => of_m(m, v, n, label, true),
-        b's' => of_sizes(v, n, label),
-        b'c' => of_chain(v, n, label),
-        _ => false,
+    if letter == b't' {
+        return edit(m, v, 0, n);
     }
+    let mut b = *m;
+    let from = build(&mut b, letter, v);
+    if 4 < from {
+        return false;
+    }
+    if !edit(&mut b, v, from + 1, n) {
+        return false;
+    }
+    attempt(&b, wide(v[from]), label, letter == b'w')
 }
 
 // A line that is neither empty nor a comment. False where it is no case.
 fn case_line(m: &mut [u8; 4800], letter: u8, s: &[u8]) -> bool {
-    let colon = find(s, 0, b':');
-    if s.len() - colon < 2 {
-        return false;
-    }
-    let head = colon + 1;
-    let tail = colon + 2;
     let mut v = [0u32; 40];
-    let n = numbers(&s[0..head], &mut v);
-    if n == 40 {
+    let h = read_head(s, &mut v);
+    let end = h.end;
+    if h.n == 40 {
         return false;
     }
-    case(m, letter, &v, n, &s[tail..])
+    if s.len() - end < 2 {
+        return false;
+    }
+    let label = end + 2;
+    case(m, letter, &v, h.n, &s[label..])
 }
 
 fn line(m: &mut [u8; 4800], s: &[u8]) {
