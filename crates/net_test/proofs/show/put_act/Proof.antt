@@ -1,0 +1,70 @@
+-- The arcs of the kinds up to `k` are written. Assumes nothing.
+use Prim.Native.Nat.{_-_}
+use borrow.Author.Needs.{needs}
+use Rattle.net_test.proofs.show.put_act.Statement.{statement}
+use Rattle.net_test.proofs.show.put_act.Tie as tie
+
+abbrev Inv-loop : tie.InvT-loop
+Inv-loop t a k₀ k = Unit
+
+abbrev μ-loop : tie.MeasureT-loop
+μ-loop t a k₀ k = 8 - k
+
+acts-requires : tie.Need-acts-requires Inv-loop μ-loop
+acts-requires c κs = search needs
+
+slice-aggregate-say : tie.Need-slice-aggregate-say Inv-loop μ-loop
+slice-aggregate-say c = search needs
+
+say-requires : tie.Need-say-requires Inv-loop μ-loop
+say-requires c κs = search needs
+
+slice-aggregate-say-2 : tie.Need-slice-aggregate-say-2 Inv-loop μ-loop
+slice-aggregate-say-2 c = search needs
+
+arcs-requires : tie.Need-arcs-requires Inv-loop μ-loop
+arcs-requires c κs = search needs
+
+say-requires-2 : tie.Need-say-requires-2 Inv-loop μ-loop
+say-requires-2 c κs = search needs
+
+loop-holds : tie.Need-loop-holds Inv-loop μ-loop
+loop-holds c = search needs
+
+put-arc-requires : tie.Need-put-arc-requires Inv-loop μ-loop
+put-arc-requires c κs = search needs
+
+add-k : tie.Need-add-k Inv-loop μ-loop
+add-k c = search needs
+
+loop-less : tie.Need-loop-less Inv-loop μ-loop
+loop-less c = search needs
+
+loop-again : tie.Need-loop-again Inv-loop μ-loop
+loop-again c = search needs
+
+returns : tie.Need-returns Inv-loop μ-loop
+returns c = search needs
+
+returns-2 : tie.Need-returns-2 Inv-loop μ-loop
+returns-2 c = search needs
+
+pub put-act-spec : {M : Type 1} → statement M
+put-act-spec =
+    tie.close
+    (tie.spec
+    Inv-loop
+    μ-loop
+    acts-requires
+    slice-aggregate-say
+    say-requires
+    slice-aggregate-say-2
+    arcs-requires
+    say-requires-2
+    loop-holds
+    put-arc-requires
+    add-k
+    loop-less
+    loop-again
+    returns
+    returns-2)

@@ -1,0 +1,62 @@
+-- What a look-up of an arc asks are the tests before it. Assumes nothing.
+use mathlib.Core.Path.{sym, _∙_}
+use borrow.Author.Needs.{needs}
+use Rattle.net_test.proofs.show.put_arc.Statement.{statement}
+use Rattle.net_test.proofs.show.put_arc.Tie as tie
+
+kinds-requires : tie.Need-kinds-requires
+kinds-requires c κs = search needs
+
+takes-kind-requires : tie.Need-takes-kind-requires
+takes-kind-requires c κs = search needs
+
+slice-aggregate-say : tie.Need-slice-aggregate-say
+slice-aggregate-say c = search needs
+
+say-requires : tie.Need-say-requires
+say-requires c κs = search needs
+
+slice-aggregate-say-2 : tie.Need-slice-aggregate-say-2
+slice-aggregate-say-2 c = search needs
+
+input-requires : tie.Need-input-requires
+input-requires c κs = (search needs, (search needs, search needs, sym (c .before .before .before .before .takes-kind .ensures) ∙ c .before .before .before .if2 .taken))
+
+say-requires-2 : tie.Need-say-requires-2
+say-requires-2 c κs = search needs
+
+slice-aggregate-say-3 : tie.Need-slice-aggregate-say-3
+slice-aggregate-say-3 c = search needs
+
+output-requires : tie.Need-output-requires
+output-requires c κs = (search needs, (search needs, search needs, sym (c .before .before .before .before .before .before .before .takes-kind .ensures) ∙ c .before .before .before .before .before .before .if2 .taken))
+
+say-requires-3 : tie.Need-say-requires-3
+say-requires-3 c κs = search needs
+
+returns : tie.Need-returns
+returns c = search needs
+
+returns-2 : tie.Need-returns-2
+returns-2 c = search needs
+
+returns-3 : tie.Need-returns-3
+returns-3 c = search needs
+
+pub put-arc-spec : {M : Type 1} → statement M
+put-arc-spec =
+    tie.close
+    (tie.spec
+    kinds-requires
+    takes-kind-requires
+    slice-aggregate-say
+    say-requires
+    slice-aggregate-say-2
+    input-requires
+    say-requires-2
+    slice-aggregate-say-3
+    output-requires
+    say-requires-3
+    returns
+    returns-2
+    returns-3)
