@@ -1,1 +1,3 @@
 mod Following
+mod Kept
+pub mod Runs
