@@ -5,8 +5,8 @@ use mathlib.Core.Path.{_≡_, refl, ap, ap₂, sym, _∙_}
 use mathlib.Core.List.{List, [], _++_, append-nil}
 use native.Mathlib.Decide.{decLe}
 use native.Mathlib.Omega.{arith}
-use lib.ListN.{length, take, drop, length-take, length-drop, take-append-drop, drop-of-length-le}
-use lib.Seq.{take-all, take-append-le, drop-append-le, drop-drop}
+use lib.ListN.{length, take, drop, length-drop, take-append-drop, drop-of-length-le}
+use lib.Seq.{length-take-le, take-append-le, drop-append-le, drop-drop}
 use Rattle.net.specs.Net.{Net, Loaded}
 use Rattle.replay.specs.Plain.{event}
 use Rattle.replay.specs.Calls.{askBytes}
@@ -121,20 +121,17 @@ module _ (N : Net) (ks : List ℕ) (body : ℕ) where
         ∙ ap₂ (goesOn N ks f body i) (sym p) (sym q);
   }
 
-  -- the first n bytes of a buffer: a window that need not be filled, and the whole of it
-  pub kept-part : (buf : List ℕ) (n : ℕ) (trail : List ℕ) (s : Spot) (left : List ℕ) (r : Outcome) → n < length buf
-      → Kept N ks body (Window (take n buf) 0) trail s left r → Kept N ks body (Filled buf n) trail s left r
-  kept-part buf n trail s left r h K = record { same = λ f i F. K .same f i (window f i F) }
+  -- a window that is the first n bytes of a buffer, with 40 bytes left for each step where they fill it
+  pub kept-filled : (buf : List ℕ) (n : ℕ) (w : List ℕ) (least : ℕ) (trail : List ℕ) (s : Spot) (left : List ℕ) (r : Outcome) → n ≤ length buf → w ≡ take n buf → (length buf ≤ n → 40 ≤ least)
+      → Kept N ks body (Window w least) trail s left r → Kept N ks body (Filled buf n) trail s left r
+  kept-filled buf n w least trail s left r within is enough K = record { same = λ f i F. K .same f i (window f i F) }
     where
-      size : length (take n buf) ≡ n
-      size = length-take n buf ∙ omega arith
+      size : length w ≡ n
+      size = ap length is ∙ length-take-le n buf within
 
-      window : (f : List ℕ) (i : ℕ) → Filled buf n f i → Window (take n buf) 0 f i
-      window f i F = record { part = F .part ∙ ap (λ (k : ℕ). take k (drop i f)) (sym size); last = λ l. ap (λ (k : ℕ). i + k) size ∙ F .last h }
+      last : (f : List ℕ) (i : ℕ) → Filled buf n f i → least < 40 → Dec (length buf ≤ n) → i + length w ≡ length f
+      last f i F h (yes l) = absurd (omega (arith, enough l))
+      last f i F h (no m) = ap (λ (k : ℕ). i + k) size ∙ F .last (omega arith)
 
-  pub kept-whole : (buf : List ℕ) (n : ℕ) (trail : List ℕ) (s : Spot) (left : List ℕ) (r : Outcome) → n ≡ length buf
-      → Kept N ks body (Window buf 40) trail s left r → Kept N ks body (Filled buf n) trail s left r
-  kept-whole buf n trail s left r e K = record { same = λ f i F. K .same f i (window f i F) }
-    where
-      window : (f : List ℕ) (i : ℕ) → Filled buf n f i → Window buf 40 f i
-      window f i F = record { part = sym (take-all n buf (omega arith)) ∙ F .part ∙ ap (λ (k : ℕ). take k (drop i f)) e; last = λ l. absurd (omega arith) }
+      window : (f : List ℕ) (i : ℕ) → Filled buf n f i → Window w least f i
+      window f i F = record { part = is ∙ F .part ∙ ap (λ (k : ℕ). take k (drop i f)) (sym size); last = λ h. last f i F h (decLe (length buf) n) }

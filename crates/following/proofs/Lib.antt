@@ -1,3 +1,4 @@
 mod Following
 mod Kept
+mod File
 pub mod Runs

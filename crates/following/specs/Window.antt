@@ -24,6 +24,11 @@ pub record Filled (buf : List ℕ) (n : ℕ) (f : List ℕ) (i : ℕ) : Type 0 w
 pub record Kept (N : Net) (ks : List ℕ) (body : ℕ) (PartOf : List ℕ → ℕ → Type 0) (trail : List ℕ) (s : Spot) (left : List ℕ) (r : Outcome) : Type 0 where
   pub same : (f : List ℕ) (i : ℕ) → PartOf f i → final N ks f body trail (i + s .from) (s .at) (s .accepted) ≡ goesOn N ks f body i left r
 
+-- What is left is what comes of all events of a file. It is the bytes that were read, which no contract can name.
+pub record OfSomeFile (N : Net) (ks : List ℕ) (body : ℕ) (trail left : List ℕ) (r : Outcome) : Type 0 where
+  pub file : List ℕ
+  pub all : final N ks file body trail 0 0 0 ≡ record { trail = left; accepted = r .spot .accepted; code = r .code }
+
 -- Unless it is over, fewer than `least` of the `size` bytes are left, and where there were as many at the spot s an event was accepted.
 pub record Through (size least : ℕ) (s : Spot) (r : Outcome) : Type 0 where
   pub rest : r .over ≡ false → size - r .spot .from < least

@@ -14,7 +14,7 @@ ghost use Rattle.words.specs.Words.{wordsOf};
 ghost use Rattle.net.specs.Held.{netIn};
 ghost use Rattle.following.specs.Follows.{Follows};
 ghost use Rattle.following.specs.Followed.{stops, stepTrail, stepOutcome};
-ghost use Rattle.following.specs.Window.{Window, Filled, Kept, Through, Turned};
+ghost use Rattle.following.specs.Window.{Window, Filled, Kept, OfSomeFile, Through, Turned};
 
 // Where the reading stands: byte `from` of the window is byte `at` of the events body, and `accepted` events are accepted.
 pub struct Spot {
@@ -142,7 +142,8 @@ fn turn(
 // All events, turn by turn: each but the last carries out one event or more.
 fn all_events(rec: &mut [u8], t: &[u32; 1684], register: &[u8], body: usize) -> Outcome
     requires { ⌜ Follows (now t) (now rec) (now register) 0 ⌝ }
-    ensures { λ r. ⌜ Follows (now (t .entry)) (now (rec .exit)) (now (register .entry)) (r .spot .accepted) ⌝ }
+    ensures all { λ r. ⌜ OfSomeFile (netIn (now (t .entry))) (wordsOf (now (register .entry))) body (now (rec .entry)) (now (rec .exit)) r ⌝ }
+    ensures follows { λ r. ⌜ Follows (now (t .entry)) (now (rec .exit)) (now (register .entry)) (r .spot .accepted) ⌝ }
 {
     let mut buf = io::large_buffer();
     let mut spot = Spot {

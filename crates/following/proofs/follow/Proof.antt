@@ -25,7 +25,7 @@ close-requires c κs = search needs
 print-requires : tie.Need-print-requires
 print-requires c κs =
     let s = c .before .before .before .before .before .before .before .before .before .before .before .before in
-    subst (Ready (s .args .t .now)) (sym (c .before .before .before .close .ensures .1)) (ready-asked (s .args .t .now) (c .before .before .before .before .before .before .before .before .all-events .last .0) (c .before .before .before .before .before .before .before .before .all-events .ensures .ready) close)
+    subst (Ready (s .args .t .now)) (sym (c .before .before .before .close .ensures .1)) (ready-asked (s .args .t .now) (c .before .before .before .before .before .before .before .before .all-events .last .0) (c .before .before .before .before .before .before .before .before .all-events .ensures .1 .ready) close)
 
 same-length-2 : tie.Need-same-length-2
 same-length-2 c = search needs

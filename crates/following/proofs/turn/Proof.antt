@@ -1,9 +1,11 @@
 -- The part of the window that is filled is a window too: the file's last, or one with 40 bytes left for each step. Assumes nothing.
+use mathlib.Core.Path.{refl, sym}
 use native.Mathlib.Omega.{arith}
-use lib.ListN.{length-take}
+use lib.ListN.{take, length-take}
+use lib.Seq.{take-all}
 use Rattle.words.specs.Words.{wordsOf}
 use Rattle.net.specs.Held.{netIn}
-use Rattle.following.proofs.Kept.{kept-part, kept-whole}
+use Rattle.following.proofs.Kept.{kept-filled}
 use borrow.Author.Needs.{needs}
 use Rattle.following.proofs.turn.Statement.{statement}
 use Rattle.following.proofs.turn.Tie as tie
@@ -21,7 +23,8 @@ returns : tie.Need-returns
 returns c =
     let s = c .before .before .before .before .before .before .before .before .before in
     let r = c .before .before .steps in (
-      kept-part (netIn (s .args .t .now)) (wordsOf (s .args .register .now)) (s .args .body) (s .args .buf .now) (s .args .n) (s .args .rec .now) (s .args .start) (r .last .0) (r .result) (omega arith) (r .ensures .0),
+      kept-filled (netIn (s .args .t .now)) (wordsOf (s .args .register .now)) (s .args .body) (s .args .buf .now) (s .args .n) (take (s .args .n) (s .args .buf .now)) _ (s .args .rec .now) (s .args .start) (r .last .0) (r .result)
+          (omega arith) refl (λ l. absurd (omega arith)) (r .ensures .0),
       (
         r .ensures .1 .0,
         (
@@ -41,7 +44,8 @@ returns-2 : tie.Need-returns-2
 returns-2 c =
     let s = c .before .before .before .before .before .before .before .before in
     let r = c .before .before .steps2 in (
-      kept-whole (netIn (s .args .t .now)) (wordsOf (s .args .register .now)) (s .args .body) (s .args .buf .now) (s .args .n) (s .args .rec .now) (s .args .start) (r .last .0) (r .result) (omega arith) (r .ensures .0),
+      kept-filled (netIn (s .args .t .now)) (wordsOf (s .args .register .now)) (s .args .body) (s .args .buf .now) (s .args .n) (s .args .buf .now) _ (s .args .rec .now) (s .args .start) (r .last .0) (r .result)
+          (omega arith) (sym (take-all (s .args .n) (s .args .buf .now) (omega arith))) (λ l. omega arith) (r .ensures .0),
       (r .ensures .1 .0, (omega arith, record { full = λ o. omega arith; more = λ o h. r .ensures .1 .1 .1 .more o (omega arith) })),
     )
 
