@@ -12,6 +12,7 @@ use Rattle.replay.specs.Calls.{askBytes}
 use Rattle.tracefile.specs.declared.Answer.{Answer}
 use Rattle.tracefile.specs.Trace.{readFrom}
 use Rattle.following.specs.declared.Outcome.{Outcome}
+use Rattle.following.specs.Followed.{stops}
 use Rattle.following.proofs.Following.{kinds-known, event-code, event-room, read-at, read-handed, read-bytes}
 use Rattle.following.proofs.Kept.{step-event, step-end, step-refused}
 use borrow.Author.Needs.{needs}
@@ -126,14 +127,16 @@ returns c =
     let s = c .before .before .before .before .before .before .before .before in
     let r = c .before .before .before in
     let e = step-end (netIn (s .args .t .now)) (wordsOf (s .args .register .now)) (s .args .window .now) (s .args .body) (s .args .rec .now) (s .args .spot) (r .read-window .result) (answer-at r) (c .before .enum-told .given .1) in
-    (e .0, c .stopped .ensures ∙ e .1)
+    let o : c .stopped .result ≡ stops (s .args .spot) 0 = c .stopped .ensures in
+    (e .0, o ∙ e .1)
 
 returns-2 : tie.Need-returns-2
 returns-2 c =
     let s = c .before .before .before .before .before .before .before .before .before in
     let r = c .before .before .before .before in
     let e = step-refused (netIn (s .args .t .now)) (wordsOf (s .args .register .now)) (s .args .window .now) (s .args .body) (s .args .rec .now) (s .args .spot) (r .read-window .result) (answer-at r) (c .before .before .found .given .0 .0) (c .before .before .found .given .1) in
-    (e .0, c .stopped2 .ensures ∙ e .1)
+    let o : c .stopped2 .result ≡ stops (s .args .spot) (c .before .before .found .given .0 .0) = c .stopped2 .ensures in
+    (e .0, o ∙ e .1)
 
 same-length : tie.Need-same-length
 same-length c = search needs

@@ -34,7 +34,7 @@ returns : tie.Need-returns
 returns c =
     let f = c .before .before .before .before .before .before .to-front in
     let rest = c .before .before .read-full .last .1 .0 in (
-      search needs,
+      (omega arith, omega arith),
       ap (λ (n : ℕ). take n (putMid (f .result) (length (f .last .0) - f .result) (f .last .0) rest)) (sym (f .ensures .0))
           ∙ take-put (f .result) (length (f .last .0) - f .result) (f .last .0) rest (omega arith)
           ∙ f .ensures .1,
