@@ -27,6 +27,7 @@ use Rattle.tracefile.specs.Trace.{readFrom}
 use Rattle.tracefile.proofs.HandedLaws.{handed}
 use Rattle.following.specs.Followed.{Followed, byFound, followed, final, handedOut, eventsRead}
 use Rattle.following.specs.Claims.{PlainRun}
+use Rattle.following.proofs.Body.{all-of}
 
 module _ (table : List ℕ) (good : loadCode table ≡ 0) where
   abbrev N : Net
@@ -109,4 +110,4 @@ pub plain-run : (table ks f : List ℕ) (body from : ℕ) → loadCode table ≡
 unfolding final eventsRead startRecord
 plain-run table ks f body from good ok =
     let r = ran table good ks f body 1000001 from 0 0 (start ks) refl refl refl (sound-reached (netOf table) (promise table good) ks ok []) in
-    record { trail = r .trail; accepted = omega (arith, r .accepted); taken = r .taken }
+    record { trail = r .trail; accepted = omega (arith, r .accepted); taken = r .taken; all = all-of (netOf table) (promise table good) ks f body from (startRecord table ks) }
