@@ -7,8 +7,11 @@ use native.Mathlib.Nat.{add-zero}
 use native.Mathlib.Omega.{arith}
 use lib.ListN.{length, take, drop, length-append, take-append-drop}
 use lib.Seq.{length-take-le, take-all, take-at, take-take, drop-append-seam}
+use borrow.Author.Tests.{eq-eqb, ne-eqb}
 use Rattle.net.specs.Net.{Net}
-use Rattle.following.specs.Followed.{Followed, final, goesOn}
+use Rattle.replay.specs.Plain.{close}
+use Rattle.replay.specs.Calls.{askBytes}
+use Rattle.following.specs.Followed.{Followed, closedAfter, leftBy, final, goesOn}
 use Rattle.following.specs.Window.{Filled, Kept, OfSomeFile}
 use Rattle.following.specs.declared.Spot.{Spot}
 use Rattle.following.specs.declared.Outcome.{Outcome}
@@ -53,9 +56,9 @@ module _ (N : Net) (ks : List ℕ) (body : ℕ) (trail : List ℕ) where
         ∙ ap (λ (k : ℕ). final N ks (file g) body rec k (s .at) (s .accepted)) (sym (add-zero (length (R .used))))
         ∙ K .same (file g) (length (R .used)) (part-of g e)
 
-    pub read-over : r .over ≡ true → OfSomeFile N ks body trail left r
+    pub read-over : r .over ≡ true → OfSomeFile N ks body trail (_≡_ (leftBy left r))
     unfolding goesOn
-    read-over o = record { file = file []; all = rw o at (turned [] (λ h. refl)) }
+    read-over o = record { file = file []; came = sym (rw o at (turned [] (λ h. refl))) }
 
     pub read-on : r .over ≡ false → n ≡ length new → r .spot .from ≤ n → Read left new (r .spot)
     unfolding goesOn
@@ -80,3 +83,13 @@ module _ (N : Net) (ks : List ℕ) (body : ℕ) (trail : List ℕ) where
             ap (λ (l : List ℕ). R .used ++ (l ++ g)) (take-all n new (omega arith) ∙ sym (take-append-drop k new))
             ∙ ap (λ (l : List ℕ). R .used ++ l) (append-assoc (take k new) (drop k new) g)
             ∙ sym (append-assoc (R .used) (take k new) (drop k new ++ g))
+
+  -- the end: a refusal leaves the trail as it is, else it is closed
+  module _ (left : List ℕ) (r : Outcome) (O : OfSomeFile N ks body trail (_≡_ (leftBy left r))) where
+    pub end-refused : (r .code ≡ 0 → ⊥) → OfSomeFile N ks body trail (λ (d : Followed). left ≡ closedAfter d)
+    unfolding closedAfter
+    end-refused m = record { file = O .file; came = rw (← O .came, ne-eqb (r .code) 0 m) refl }
+
+    pub end-closed : r .code ≡ 0 → (closed : List ℕ) → closed ≡ askBytes left close → OfSomeFile N ks body trail (λ (d : Followed). closed ≡ closedAfter d)
+    unfolding closedAfter
+    end-closed z closed e = record { file = O .file; came = e ∙ rw (← O .came, eq-eqb (r .code) 0 z) refl }

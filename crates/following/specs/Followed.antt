@@ -3,9 +3,10 @@
 use Prim.Native.Nat.{ℕ, zero, suc, _+_, _-_, _*_}
 use mathlib.Core.Bool.{true, false}
 use mathlib.Core.List.{List, [], _∷_}
+use lib.Dec.{eqb}
 use Rattle.words.specs.Lists.{pick}
 use Rattle.net.specs.Net.{Net}
-use Rattle.replay.specs.Plain.{Event, event}
+use Rattle.replay.specs.Plain.{Event, event, close}
 use Rattle.replay.specs.Calls.{askBytes}
 use Rattle.tracefile.specs.Answers.{eventIn}
 use Rattle.tracefile.specs.Trace.{readFrom}
@@ -20,6 +21,10 @@ pub record Followed : Type 0 where
   pub trail : List ℕ
   pub accepted : ℕ
   pub code : ℕ
+
+-- what is left of the trail then: it is closed where no event was refused
+unfoldable pub closedAfter : Followed → List ℕ
+closedAfter d = pick (eqb (d .code) 0) (askBytes (d .trail) close) (d .trail)
 
 -- by what is found: an event, or the end (0) or a refusal with its number
 abbrev pub byFound {ℓ} : {A : Type ℓ} → Found → A → (ℕ → A) → A
@@ -37,6 +42,10 @@ behind s a = record {
 
 abbrev pub stops : Spot → ℕ → Outcome
 stops s c = record { spot = s; over = true; code = c }
+
+-- what an outcome that is over says
+abbrev pub leftBy : List ℕ → Outcome → Followed
+leftBy trail r = record { trail = trail; accepted = r .spot .accepted; code = r .code }
 
 -- what an answer of the reader leaves of the trail, and the outcome
 abbrev pub trailAfter : List ℕ → Answer → List ℕ
@@ -81,6 +90,4 @@ module _ (N : Net) (ks b : List ℕ) (body : ℕ) where
 
   -- what comes of all events where reading stands as the outcome says, in a window that begins at byte i of b
   unfoldable pub goesOn : ℕ → List ℕ → Outcome → Followed
-  goesOn i trail r =
-      pick (r .over) (record { trail = trail; accepted = r .spot .accepted; code = r .code })
-      (final trail (i + r .spot .from) (r .spot .at) (r .spot .accepted))
+  goesOn i trail r = pick (r .over) (leftBy trail r) (final trail (i + r .spot .from) (r .spot .at) (r .spot .accepted))

@@ -7,7 +7,7 @@ use lib.ListN.{length, take, drop}
 use Rattle.net.specs.Net.{Net}
 use Rattle.following.specs.declared.Spot.{Spot}
 use Rattle.following.specs.declared.Outcome.{Outcome}
-use Rattle.following.specs.Followed.{final, goesOn}
+use Rattle.following.specs.Followed.{Followed, final, goesOn}
 
 -- w is the part of the file f from byte i on, and its last where a step is made with fewer than 40 bytes left
 pub record Window (w : List ℕ) (least : ℕ) (f : List ℕ) (i : ℕ) : Type 0 where
@@ -24,10 +24,11 @@ pub record Filled (buf : List ℕ) (n : ℕ) (f : List ℕ) (i : ℕ) : Type 0 w
 pub record Kept (N : Net) (ks : List ℕ) (body : ℕ) (PartOf : List ℕ → ℕ → Type 0) (trail : List ℕ) (s : Spot) (left : List ℕ) (r : Outcome) : Type 0 where
   pub same : (f : List ℕ) (i : ℕ) → PartOf f i → final N ks f body trail (i + s .from) (s .at) (s .accepted) ≡ goesOn N ks f body i left r
 
--- What is left is what comes of all events of a file. It is the bytes that were read, which no contract can name.
-pub record OfSomeFile (N : Net) (ks : List ℕ) (body : ℕ) (trail left : List ℕ) (r : Outcome) : Type 0 where
+-- What comes of all events of some file, which begins with the body, is as P says. Which file, no contract can say: it is the
+-- bytes that were read.
+pub record OfSomeFile (N : Net) (ks : List ℕ) (body : ℕ) (trail : List ℕ) (P : Followed → Type 0) : Type 0 where
   pub file : List ℕ
-  pub all : final N ks file body trail 0 0 0 ≡ record { trail = left; accepted = r .spot .accepted; code = r .code }
+  pub came : P (final N ks file body trail 0 0 0)
 
 -- Unless it is over, fewer than `least` of the `size` bytes are left, and where there were as many at the spot s an event was accepted.
 pub record Through (size least : ℕ) (s : Spot) (r : Outcome) : Type 0 where

@@ -13,7 +13,7 @@ ghost use lib.ListN.{length};
 ghost use Rattle.words.specs.Words.{wordsOf};
 ghost use Rattle.net.specs.Held.{netIn};
 ghost use Rattle.following.specs.Follows.{Follows};
-ghost use Rattle.following.specs.Followed.{stops, stepTrail, stepOutcome};
+ghost use Rattle.following.specs.Followed.{Followed, closedAfter, stops, leftBy, stepTrail, stepOutcome};
 ghost use Rattle.following.specs.Window.{Window, Filled, Kept, OfSomeFile, Through, Turned};
 
 // Where the reading stands: byte `from` of the window is byte `at` of the events body, and `accepted` events are accepted.
@@ -142,7 +142,7 @@ fn turn(
 // All events, turn by turn: each but the last carries out one event or more.
 fn all_events(rec: &mut [u8], t: &[u32; 1684], register: &[u8], body: usize) -> Outcome
     requires { ⌜ Follows (now t) (now rec) (now register) 0 ⌝ }
-    ensures all { λ r. ⌜ OfSomeFile (netIn (now (t .entry))) (wordsOf (now (register .entry))) body (now (rec .entry)) (now (rec .exit)) r ⌝ }
+    ensures all { λ r. ⌜ OfSomeFile (netIn (now (t .entry))) (wordsOf (now (register .entry))) body (now (rec .entry)) (_≡_ (leftBy (now (rec .exit)) r)) ⌝ }
     ensures follows { λ r. ⌜ Follows (now (t .entry)) (now (rec .exit)) (now (register .entry)) (r .spot .accepted) ⌝ }
 {
     let mut buf = io::large_buffer();
@@ -166,9 +166,10 @@ fn all_events(rec: &mut [u8], t: &[u32; 1684], register: &[u8], body: usize) -> 
     }
 }
 
-// Follows a trail that is started to its end: the report, or the first refusal.
+// Follows a trail that is started to its end: it is closed and reported, or the first refusal is.
 pub fn follow(rec: &mut [u8], t: &[u32; 1684], register: &[u8], body: usize)
     requires { ⌜ Follows (now t) (now rec) (now register) 0 ⌝ }
+    ensures { λ _. ⌜ OfSomeFile (netIn (now (t .entry))) (wordsOf (now (register .entry))) body (now (rec .entry)) (λ (d : Followed). now (rec .exit) ≡ closedAfter d) ⌝ }
 {
     let s = all_events(rec, t, register, body);
     let code = s.code;

@@ -12,6 +12,7 @@ use Rattle.net.specs.Held.{netIn}
 use Rattle.following.specs.declared.Spot.{Spot}
 use Rattle.following.specs.declared.Outcome.{Outcome}
 use Rattle.following.specs.Follows.{Follows}
+use Rattle.following.specs.Followed.{leftBy}
 use Rattle.following.specs.Window.{OfSomeFile}
 use Rattle.following.proofs.Following.{events-few}
 use Rattle.following.proofs.File.{Read, read-start, read-over, read-on}
@@ -59,7 +60,7 @@ turn-requires c κs = (c .before .before .before .before .before .loop .inv .fol
 
 -- a turn: it is over, or goes on
 record Made (N : Net) (ks : List ℕ) (body : ℕ) (rec₀ new left : List ℕ) (r : Outcome) : Type 0 where
-  over : r .over ≡ true → OfSomeFile N ks body rec₀ left r
+  over : r .over ≡ true → OfSomeFile N ks body rec₀ (_≡_ (leftBy left r))
   on : r .over ≡ false → Read N ks body rec₀ left new (r .spot)
 
 made : (c : tie.After-turn Inv-loop μ-loop)

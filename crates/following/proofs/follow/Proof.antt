@@ -1,8 +1,11 @@
--- The trail is one to which calls can be put, also after the close. Assumes nothing.
+-- The trail is one to which calls can be put, also after the close; and it is closed where no event was refused. Assumes nothing.
 use mathlib.Core.Path.{sym, subst}
+use Rattle.words.specs.Words.{wordsOf}
+use Rattle.net.specs.Held.{netIn}
 use Rattle.replay.specs.Plain.{close}
 use Rattle.replay.specs.Ready.{Ready}
 use Rattle.replay.proofs.Calls.{ready-asked}
+use Rattle.following.proofs.File.{end-refused, end-closed}
 use borrow.Author.Needs.{needs}
 use Rattle.following.proofs.follow.Statement.{statement}
 use Rattle.following.proofs.follow.Tie as tie
@@ -17,7 +20,10 @@ same-length : tie.Need-same-length
 same-length c = search needs
 
 returns : tie.Need-returns
-returns c = search needs
+returns c =
+    let s = c .before .before .before .before .before .before .before .before .before in
+    let r = c .before .before .before .before .before .all-events in
+    end-refused (netIn (s .args .t .now)) (wordsOf (s .args .register .now)) (s .args .body) (s .args .rec .now) (r .last .0) (r .result) (r .ensures .0) (c .before .before .if1 .taken)
 
 close-requires : tie.Need-close-requires
 close-requires c κs = search needs
@@ -31,7 +37,11 @@ same-length-2 : tie.Need-same-length-2
 same-length-2 c = search needs
 
 returns-2 : tie.Need-returns-2
-returns-2 c = search needs
+returns-2 c =
+    let s = c .before .before .before .before .before .before .before .before .before .before .before .before .before in
+    let r = c .before .before .before .before .before .before .before .before .before .all-events in
+    let d = c .before .before .before .before .close in
+    end-closed (netIn (s .args .t .now)) (wordsOf (s .args .register .now)) (s .args .body) (s .args .rec .now) (r .last .0) (r .result) (r .ensures .0) (c .before .before .before .before .before .before .if1 .left) (d .last .0) (d .ensures .1)
 
 pub follow-spec : {M : Type 1} → statement M
 follow-spec =
