@@ -1,1 +1,5 @@
 mod Following
+mod Kept
+mod File
+mod Body
+pub mod Runs

@@ -1,1 +1,4 @@
 pub mod Follows
+pub mod Followed
+pub mod Window
+pub mod Claims

@@ -7,11 +7,14 @@ use printing::refuse;
 use tracefile::Cursor;
 use tracefile::Found;
 use words::wide;
-ghost use mathlib.Core.Bool.{true};
 ghost use mathlib.Core.Path.{_≡_};
 ghost use Prim.Native.Nat.{_≤_};
 ghost use lib.ListN.{length};
-ghost use Rattle.following.specs.Follows.{Follows, Stepped};
+ghost use Rattle.words.specs.Words.{wordsOf};
+ghost use Rattle.net.specs.Held.{netIn};
+ghost use Rattle.following.specs.Follows.{Follows};
+ghost use Rattle.following.specs.Followed.{Followed, closedAfter, stops, leftBy, stepTrail, stepOutcome};
+ghost use Rattle.following.specs.Window.{Window, Filled, Kept, OfSomeFile, Through, Turned};
 
 // Where the reading stands: byte `from` of the window is byte `at` of the events body, and `accepted` events are accepted.
 pub struct Spot {
@@ -28,7 +31,7 @@ pub struct Outcome {
 }
 
 fn stopped(spot: Spot, code: u32) -> Outcome
-    ensures { λ r. ⌜ (r .spot ≡ spot) × (r .over ≡ true) ⌝ }
+    ensures { λ r. ⌜ r ≡ stops spot code ⌝ }
 {
     Outcome {
         spot,
@@ -48,8 +51,8 @@ fn step(
 ) -> Outcome
     requires { ⌜ Follows (now t) (now rec) (now register) (spot .accepted) ⌝ }
     requires { ⌜ spot .from ≤ length (now window) ⌝ }
-    ensures { λ r. ⌜ Follows (now (t .entry)) (now (rec .exit)) (now (register .entry)) (r .spot .accepted) ⌝ }
-    ensures { λ r. ⌜ Stepped (length (now (window .entry))) (spot .accepted) r ⌝ }
+    ensures trail { λ _. ⌜ now (rec .exit) ≡ stepTrail (netIn (now (t .entry))) (wordsOf (now (register .entry))) (now (window .entry)) body (now (rec .entry)) spot ⌝ }
+    ensures outcome { λ r. ⌜ r ≡ stepOutcome (netIn (now (t .entry))) (wordsOf (now (register .entry))) (now (window .entry)) body spot ⌝ }
 {
     let from = spot.from;
     let accepted = spot.accepted;
@@ -92,8 +95,10 @@ fn steps(
 ) -> Outcome
     requires { ⌜ Follows (now t) (now rec) (now register) (start .accepted) ⌝ }
     requires { ⌜ start .from ≤ length (now window) ⌝ }
-    ensures { λ r. ⌜ Follows (now (t .entry)) (now (rec .exit)) (now (register .entry)) (r .spot .accepted) ⌝ }
-    ensures { λ r. ⌜ r .spot .from ≤ length (now (window .entry)) ⌝ }
+    ensures kept { λ r. ⌜ Kept (netIn (now (t .entry))) (wordsOf (now (register .entry))) body (Window (now (window .entry)) least) (now (rec .entry)) start (now (rec .exit)) r ⌝ }
+    ensures follows { λ r. ⌜ Follows (now (t .entry)) (now (rec .exit)) (now (register .entry)) (r .spot .accepted) ⌝ }
+    ensures inside { λ r. ⌜ r .spot .from ≤ length (now (window .entry)) ⌝ }
+    ensures through { λ r. ⌜ Through (length (now (window .entry))) least start r ⌝ }
 {
     let mut spot = start;
     while least <= window.len() - spot.from {
@@ -110,37 +115,35 @@ fn steps(
     }
 }
 
-// Fills the window and carries out its events: all of them where the input has ended, else as long as a whole event is sure
-// to be in the window.
+// Carries out the events in the first n bytes of the window: all of them where these do not fill it, since the input has ended
+// there; else as long as a whole event is sure to be in the window.
 fn turn(
     rec: &mut [u8],
     t: &[u32; 1684],
     register: &[u8],
     body: usize,
-    buf: &mut [u8],
-    spot: Spot,
+    buf: &[u8],
+    n: usize,
+    start: Spot,
 ) -> Outcome
-    requires { ⌜ Follows (now t) (now rec) (now register) (spot .accepted) ⌝ }
-    requires { ⌜ spot .from ≤ length (now buf) ⌝ }
-    ensures { λ r. ⌜ Follows (now (t .entry)) (now (rec .exit)) (now (register .entry)) (r .spot .accepted) ⌝ }
-    ensures { λ r. ⌜ r .spot .from ≤ length (now (buf .entry)) ⌝ }
+    requires { ⌜ Follows (now t) (now rec) (now register) (start .accepted) ⌝ }
+    requires { ⌜ (start .from ≤ n) × (n ≤ length (now buf)) ⌝ }
+    ensures kept { λ r. ⌜ Kept (netIn (now (t .entry))) (wordsOf (now (register .entry))) body (Filled (now (buf .entry)) n) (now (rec .entry)) start (now (rec .exit)) r ⌝ }
+    ensures follows { λ r. ⌜ Follows (now (t .entry)) (now (rec .exit)) (now (register .entry)) (r .spot .accepted) ⌝ }
+    ensures inside { λ r. ⌜ r .spot .from ≤ n ⌝ }
+    ensures turned { λ r. ⌜ Turned (length (now (buf .entry))) n start r ⌝ }
 {
-    let n = refill(buf, spot.from);
-    let start = Spot {
-        from: 0,
-        at: spot.at,
-        accepted: spot.accepted,
-    };
     if n < buf.len() {
         return steps(rec, t, register, body, &buf[..n], 0, start);
     }
     steps(rec, t, register, body, buf, 40, start)
 }
 
-// All events, by turns that are counted: each but the last carries out one event or more.
+// All events, turn by turn: each but the last carries out one event or more.
 fn all_events(rec: &mut [u8], t: &[u32; 1684], register: &[u8], body: usize) -> Outcome
     requires { ⌜ Follows (now t) (now rec) (now register) 0 ⌝ }
-    ensures { λ r. ⌜ Follows (now (t .entry)) (now (rec .exit)) (now (register .entry)) (r .spot .accepted) ⌝ }
+    ensures all { λ r. ⌜ OfSomeFile (netIn (now (t .entry))) (wordsOf (now (register .entry))) body (now (rec .entry)) (_≡_ (leftBy (now (rec .exit)) r)) ⌝ }
+    ensures follows { λ r. ⌜ Follows (now (t .entry)) (now (rec .exit)) (now (register .entry)) (r .spot .accepted) ⌝ }
 {
     let mut buf = io::large_buffer();
     let mut spot = Spot {
@@ -148,21 +151,25 @@ fn all_events(rec: &mut [u8], t: &[u32; 1684], register: &[u8], body: usize) -> 
         at: 0,
         accepted: 0,
     };
-    let mut turns: u32 = 1000001;
-    while turns > 0 {
-        turns -= 1;
-        let s = turn(rec, t, register, body, &mut buf, spot);
+    loop {
+        let n = refill(&mut buf, spot.from);
+        let start = Spot {
+            from: 0,
+            at: spot.at,
+            accepted: spot.accepted,
+        };
+        let s = turn(rec, t, register, body, &buf, n, start);
         if s.over {
             return s;
         }
         spot = s.spot;
     }
-    stopped(spot, 0)
 }
 
-// Follows a trail that is started to its end: the report, or the first refusal.
+// Follows a trail that is started to its end: it is closed and reported, or the first refusal is.
 pub fn follow(rec: &mut [u8], t: &[u32; 1684], register: &[u8], body: usize)
     requires { ⌜ Follows (now t) (now rec) (now register) 0 ⌝ }
+    ensures { λ _. ⌜ OfSomeFile (netIn (now (t .entry))) (wordsOf (now (register .entry))) body (now (rec .entry)) (λ (d : Followed). now (rec .exit) ≡ closedAfter d) ⌝ }
 {
     let s = all_events(rec, t, register, body);
     let code = s.code;

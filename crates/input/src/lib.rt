@@ -1,8 +1,9 @@
 // Reading the table file and standard input. A read that fails counts as the end.
 // Above the kit's `io` and `os` alone; `following` and `conform` use it.
 
-ghost use Prim.Native.Nat.{_≤_};
-ghost use lib.ListN.{length};
+ghost use mathlib.Core.Path.{_≡_};
+ghost use Prim.Native.Nat.{_-_, _≤_};
+ghost use lib.ListN.{length, take, drop};
 ghost use Rattle.io.specs.Counts.{Counts};
 
 // The file's first bytes, as many as fit, and how many there are. A file that cannot be opened has none.
@@ -48,7 +49,8 @@ pub fn skip(n: usize) -> usize
 // Moves the bytes from `from` on to the front, and gives how many they are.
 fn to_front(buf: &mut [u8], from: usize) -> usize
     requires { ⌜ from ≤ length (now buf) ⌝ }
-    ensures { λ r. ⌜ r ≤ length (now (buf .entry)) ⌝ }
+    ensures { λ r. ⌜ r ≡ length (now (buf .entry)) - from ⌝ }
+    ensures { λ r. ⌜ take r (now (buf .exit)) ≡ drop from (now (buf .entry)) ⌝ }
 {
     let mut i = from;
     let mut n: usize = 0;
@@ -64,7 +66,8 @@ fn to_front(buf: &mut [u8], from: usize) -> usize
 // than fit where the input has ended.
 pub fn refill(buf: &mut [u8], from: usize) -> usize
     requires { ⌜ from ≤ length (now buf) ⌝ }
-    ensures { λ r. ⌜ r ≤ length (now (buf .entry)) ⌝ }
+    ensures size { λ r. ⌜ (length (now (buf .entry)) - from ≤ r) × (r ≤ length (now (buf .entry))) ⌝ }
+    ensures kept { λ _. ⌜ take (length (now (buf .entry)) - from) (now (buf .exit)) ≡ drop from (now (buf .entry)) ⌝ }
 {
     let left = to_front(buf, from);
     let got = io::read_full(0, &mut buf[left..]);

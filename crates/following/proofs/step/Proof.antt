@@ -1,14 +1,20 @@
--- An event that was read is accepted, so that one event more is; else nothing changes. Assumes nothing.
+-- An event that was read is accepted, and the step is what the answer says. Assumes nothing.
 use Prim.Native.Nat.{ℕ, _+_, _-_, _*_, _≤_, _<_}
+use mathlib.Core.Bool.{false}
 use mathlib.Core.Path.{_≡_, ap, sym, subst, _∙_}
 use mathlib.Core.List.{List}
 use native.Mathlib.Omega.{arith}
-use lib.ListN.{length, take, drop, length-take, length-drop}
+use lib.ListN.{length, take, drop}
 use Rattle.words.specs.Words.{wordsOf}
 use Rattle.net.specs.Held.{netIn}
-use Rattle.replay.specs.Plain.{Event, refusal}
-use Rattle.following.specs.Follows.{Follows}
-use Rattle.following.proofs.Following.{kinds-known, event-code, event-room, event-follows, read-handed, read-bytes, over-follows}
+use Rattle.replay.specs.Plain.{Event, event, refusal}
+use Rattle.replay.specs.Calls.{askBytes}
+use Rattle.tracefile.specs.declared.Answer.{Answer}
+use Rattle.tracefile.specs.Trace.{readFrom}
+use Rattle.following.specs.declared.Outcome.{Outcome}
+use Rattle.following.specs.Followed.{stops}
+use Rattle.following.proofs.Following.{kinds-known, event-code, event-room, read-at, read-handed, read-bytes}
+use Rattle.following.proofs.Kept.{step-event, step-end, step-refused}
 use borrow.Author.Needs.{needs}
 use Rattle.following.proofs.step.Statement.{statement}
 use Rattle.following.proofs.step.Tie as tie
@@ -23,7 +29,16 @@ event-at c =
       objs = wordsOf (take (from + 8 + 4 * c .wide .result - (from + 8)) (drop (from + 8) (s .args .window .now)));
     }
 
+-- the answer is the reading at the spot of the window
+answer-at : (c : tie.After-read-window)
+    → c .read-window .result ≡ readFrom (netIn (c .before .before .before .before .before .args .t .now)) (wordsOf (c .before .before .before .before .before .args .register .now)) (c .before .before .before .before .before .args .spot .accepted)
+    (c .before .before .before .before .before .args .window .now) (c .before .before .before .before .before .args .spot .from) (c .before .before .before .before .before .args .body) (c .before .before .before .before .before .args .spot .at)
+answer-at c =
+    let s = c .before .before .before .before .before in
+    read-at (s .args .t .now) (s .args .rec .now) (s .args .register .now) (s .args .spot .accepted) (s .pre .0) (s .args .window .now) (s .args .spot .from) (s .args .body) (s .args .spot .at) (c .read-window .result) (c .read-window .ensures .0)
+
 record Handed-at (c : tie.After-wide) : Type 0 where
+  objects : event-at c .objs ≡ take (c .before .before .before .before .before .read-window .result .event .count) (c .before .before .before .before .before .read-window .result .event .objects)
   taken :
       let s = c .before .before .before .before .before .before .before .before .before .before in
       refusal (netIn (s .args .t .now)) (wordsOf (s .args .register .now)) 0 (s .args .spot .accepted) (event-at c) ≡ 0
@@ -33,21 +48,20 @@ record Handed-at (c : tie.After-wide) : Type 0 where
 handed-at : (c : tie.After-wide) → Handed-at c
 handed-at c =
     let s = c .before .before .before .before .before .before .before .before .before .before in
-    let r = c .before .before .before .before .before .read-window in
-    let e = c .before .before .before .before .before .read-window .result .event in
+    let r = c .before .before .before .before .before in
+    let e = r .read-window .result .event in
     let from = s .args .spot .from in
-    let n : ℕ = length (s .args .window .now) - from in
-    let w : List ℕ = take n (drop from (s .args .window .now)) in
     let f = c .before .before .before .enum-told2 .given .1 in
-    let h = read-handed (s .args .t .now) (s .args .rec .now) (s .args .register .now) (s .args .spot .accepted) (s .pre .0) w (s .args .body) (s .args .spot .at) (r .result) (r .ensures .0) f in
+    let h = read-handed (s .args .t .now) (s .args .rec .now) (s .args .register .now) (s .args .spot .accepted) (s .pre .0) (s .args .window .now) from (s .args .body) (s .args .spot .at) (r .read-window .result) (answer-at r) f in
     let k : from + 8 + 4 * c .wide .result - (from + 8) ≡ 4 * e .count = omega (arith, c .wide .ensures) in
-    let b : wordsOf (take (from + 8 + 4 * c .wide .result - (from + 8)) (drop (from + 8) (s .args .window .now))) ≡ take (e .count) (e .objects) =
+    let b : event-at c .objs ≡ take (e .count) (e .objects) =
     ap (λ (k : ℕ). wordsOf (take k (drop (from + 8) (s .args .window .now)))) k
-    ∙ read-bytes (s .args .t .now) (s .args .rec .now) (s .args .register .now) (s .args .spot .accepted) (s .pre .0) (s .args .window .now) from (s .args .body) (s .args .spot .at) (r .result) (r .ensures .0) f in
+    ∙ read-bytes (s .args .t .now) (s .args .rec .now) (s .args .register .now) (s .args .spot .accepted) (s .pre .0) (s .args .window .now) from (s .args .body) (s .args .spot .at) (r .read-window .result) (answer-at r) f in
     record {
+      objects = b;
       taken = subst (λ (os : List ℕ). refusal (netIn (s .args .t .now)) (wordsOf (s .args .register .now)) 0 (s .args .spot .accepted) (record { act = e .activity; objs = os }) ≡ 0) (sym b) (h .taken);
       room = event-room (s .args .t .now) (s .args .rec .now) (s .args .register .now) (s .args .spot .accepted) (s .pre .0) (record { act = e .activity; objs = take (e .count) (e .objects) }) (h .taken);
-      there = omega (arith, h .there, c .wide .ensures, length-take n (drop from (s .args .window .now)), length-drop from (s .args .window .now), s .pre .1);
+      there = omega (arith, h .there, c .wide .ensures);
     }
 
 sub-read-window : tie.Need-sub-read-window
@@ -111,12 +125,18 @@ add-t31 c = omega (arith, handed-at (c .before .before .before .before .before) 
 returns : tie.Need-returns
 returns c =
     let s = c .before .before .before .before .before .before .before .before in
-    over-follows (s .args .t .now) (s .args .rec .now) (s .args .register .now) (length (s .args .window .now)) (s .args .spot) (c .stopped .result) (s .pre .0) (s .pre .1) (c .stopped .ensures .0) (c .stopped .ensures .1)
+    let r = c .before .before .before in
+    let e = step-end (netIn (s .args .t .now)) (wordsOf (s .args .register .now)) (s .args .window .now) (s .args .body) (s .args .rec .now) (s .args .spot) (r .read-window .result) (answer-at r) (c .before .enum-told .given .1) in
+    let o : c .stopped .result ≡ stops (s .args .spot) 0 = c .stopped .ensures in
+    (e .0, o ∙ e .1)
 
 returns-2 : tie.Need-returns-2
 returns-2 c =
     let s = c .before .before .before .before .before .before .before .before .before in
-    over-follows (s .args .t .now) (s .args .rec .now) (s .args .register .now) (length (s .args .window .now)) (s .args .spot) (c .stopped2 .result) (s .pre .0) (s .pre .1) (c .stopped2 .ensures .0) (c .stopped2 .ensures .1)
+    let r = c .before .before .before .before in
+    let e = step-refused (netIn (s .args .t .now)) (wordsOf (s .args .register .now)) (s .args .window .now) (s .args .body) (s .args .rec .now) (s .args .spot) (r .read-window .result) (answer-at r) (c .before .before .found .given .0 .0) (c .before .before .found .given .1) in
+    let o : c .stopped2 .result ≡ stops (s .args .spot) (c .before .before .found .given .0 .0) = c .stopped2 .ensures in
+    (e .0, o ∙ e .1)
 
 same-length : tie.Need-same-length
 same-length c = search needs
@@ -124,10 +144,12 @@ same-length c = search needs
 returns-3 : tie.Need-returns-3
 returns-3 c =
     let s = c .before .before .before .before .before .before .before .before .before .before .before .before .before .before .before in
-    let h = handed-at (c .before .before .before .before .before) in (
-      subst (λ (b : List ℕ). Follows (s .args .t .now) b (s .args .register .now) (s .args .spot .accepted + 1)) (sym (c .before .before .apply .ensures))
-          (event-follows (s .args .t .now) (s .args .rec .now) (s .args .register .now) (s .args .spot .accepted) (s .pre .0) (event-at (c .before .before .before .before .before)) (h .taken)),
-      record { inside = h .there; more = λ f. omega arith },
+    let w = c .before .before .before .before .before in
+    let r = w .before .before .before .before .before in
+    let a = r .read-window .result in
+    let e = step-event (netIn (s .args .t .now)) (wordsOf (s .args .register .now)) (s .args .window .now) (s .args .body) (s .args .rec .now) (s .args .spot) a (answer-at r) (w .before .before .before .enum-told2 .given .1) in (
+      c .before .before .apply .ensures ∙ ap (λ (os : List ℕ). askBytes (s .args .rec .now) (event (record { act = a .event .activity; objs = os }))) (handed-at w .objects) ∙ e .0,
+      ap {B = Outcome} (λ (n : ℕ). record { spot = record { from = s .args .spot .from + 8 + 4 * n; at = a .next .at; accepted = s .args .spot .accepted + 1 }; over = false; code = 0 }) (w .wide .ensures) ∙ e .1,
     )
 
 pub step-spec : {M : Type 1} → statement M

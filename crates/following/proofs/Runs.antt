@@ -1,0 +1,113 @@
+-- What comes of all events of a trail file on a started trail is the plain run's. Assumes nothing.
+use Prim.Native.Nat.{ℕ, zero, suc, _+_, _*_}
+use mathlib.Core.Path.{_≡_, refl, ap, ap₂, sym, subst, _∙_}
+use mathlib.Core.List.{List, [], _∷_, _++_, map}
+use native.Mathlib.Omega.{arith}
+use lib.ListN.{length, length-append}
+use lib.Dec.{eqb}
+use borrow.Author.Tests.{eq-eqb}
+use Rattle.words.specs.Lists.{pick, All}
+use Rattle.net.specs.Net.{Net, Loaded}
+use Rattle.net.specs.Table.{netOf, loadCode}
+use Rattle.net.proofs.Promise.{promise, table-size}
+use Rattle.replay.specs.Plain.{Event, event, Plain, registerCode, start, answer, accept, ask, run, answers, refusal}
+use Rattle.replay.specs.State.{State, stateOf, askS, acceptS, answerS}
+use Rattle.replay.specs.Sound.{Sound}
+use Rattle.replay.specs.Record.{encode, tableIn, stateIn}
+use Rattle.replay.specs.Calls.{netAt, stateAt, askCode, askBytes, startRecord}
+use Rattle.replay.proofs.Encode.{table-encode, state-encode}
+use Rattle.replay.proofs.Keep.{sound-ask}
+use Rattle.replay.proofs.Simulate.{answer-sim, ask-sim}
+use Rattle.replay.proofs.Theorems.{sound-reached}
+use Rattle.tracefile.specs.declared.Answer.{Answer}
+use Rattle.tracefile.specs.declared.Found.{Found}
+use Rattle.tracefile.specs.declared.Found.the-variants as found
+use Rattle.tracefile.specs.Answers.{eventIn}
+use Rattle.tracefile.specs.Trace.{readFrom}
+use Rattle.tracefile.proofs.HandedLaws.{handed}
+use Rattle.following.specs.Followed.{Followed, byFound, followed, final, handedOut, eventsRead}
+use Rattle.following.specs.Claims.{PlainRun}
+use Rattle.following.proofs.Body.{all-of}
+
+module _ (table : List ℕ) (good : loadCode table ≡ 0) where
+  abbrev N : Net
+  N = netOf table
+
+  L : Loaded N
+  L = promise table good
+
+  -- an event that a plain run accepts, put to the record of what it stores
+  module _ (p : Plain) (S : Sound N (stateOf N p)) (e : Event) (z : answer N p (event e) ≡ 0) where
+    table-at : tableIn (encode table (stateOf N p)) ≡ table
+    table-at = table-encode N L table (stateOf N p) S (table-size table good .1)
+
+    net-at : netAt (encode table (stateOf N p)) ≡ N
+    unfolding netAt
+    net-at = ap netOf table-at
+
+    state-at : stateAt (encode table (stateOf N p)) ≡ stateOf N p
+    unfolding stateAt
+    state-at = ap (λ (n : Net). stateIn n (encode table (stateOf N p))) net-at ∙ state-encode N L table (stateOf N p) S (table-size table good .1)
+
+    next-is : ask N p (event e) ≡ accept p (event e)
+    next-is = rw (eq-eqb (answer N p (event e)) 0 z)
+
+    stored-is : acceptS N (stateOf N p) (event e) ≡ stateOf N (accept p (event e))
+    stored-is = sym (rw (answer-sim N p (event e), eq-eqb (answer N p (event e)) 0 z)) ∙ ask-sim N p (event e) ∙ ap (stateOf N) next-is
+
+    bytes-at : askBytes (encode table (stateOf N p)) (event e) ≡ encode table (stateOf N (accept p (event e)))
+    unfolding askBytes askCode
+    bytes-at = rw (net-at, state-at, table-at, eq-eqb (answer N p (event e)) 0 z) (ap (encode table) stored-is)
+
+    sound-at : Sound N (stateOf N (accept p (event e)))
+    sound-at = subst (Sound N) (ask-sim N p (event e) ∙ ap (stateOf N) next-is) (sound-ask N L (stateOf N p) S (event e))
+
+  -- the events that are handed out, from a plain run p on
+  module _ (ks f : List ℕ) (body : ℕ) where
+    record Ran (p : Plain) (es : List Event) (r : Followed) : Type 0 where
+      trail : r .trail ≡ encode table (stateOf N (run N p (map event es)))
+      accepted : r .accepted ≡ length (p .events) + length es
+      taken : All (λ (c : ℕ). c ≡ 0) (answers N p (map event es))
+
+    module _ (from at n : ℕ) (p : Plain) (kinds : p .kinds ≡ ks) (still-open : p .closed ≡ 0) (events : length (p .events) ≡ n) (S : Sound N (stateOf N p)) where
+      abbrev here : Answer
+      here = readFrom N ks n f from body at
+
+      accepts : here .found ≡ found.Event → answer N p (event (eventIn (here .event))) ≡ 0
+      accepts e = rw (kinds, still-open, events) (handed N L ks n f from body at e .taken)
+
+      ran-by : (d : Found) → here .found ≡ d → (es : List Event) (r : List ℕ → Followed)
+          → (here .found ≡ found.Event → Ran (accept p (event (eventIn (here .event)))) es (r (encode table (stateOf N (accept p (event (eventIn (here .event))))))))
+          → Ran p (byFound d (eventIn (here .event) ∷ es) (λ (c : ℕ). []))
+          (byFound d (r (askBytes (encode table (stateOf N p)) (event (eventIn (here .event))))) (λ (c : ℕ). record { trail = encode table (stateOf N p); accepted = n; code = c }))
+      ran-by found.Event q es r more =
+          let e : Event = eventIn (here .event) in
+          let z = accepts q in
+          let m = more q in
+          record {
+            trail = ap (λ (b : List ℕ). r b .trail) (bytes-at p S e z) ∙ m .trail ∙ ap (λ (q : Plain). encode table (stateOf N (run N q (map event es)))) (sym (next-is p S e z));
+            accepted = ap (λ (b : List ℕ). r b .accepted) (bytes-at p S e z) ∙ m .accepted ∙ omega (arith, length-append (p .events) (e ∷ []));
+            taken = (z, subst (λ (q : Plain). All (λ (c : ℕ). c ≡ 0) (answers N q (map event es))) (sym (next-is p S e z)) (m .taken));
+          }
+      ran-by found.End q es r more = record { trail = refl; accepted = omega arith; taken = tt }
+      ran-by (found.Refused c) q es r more = record { trail = refl; accepted = omega arith; taken = tt }
+
+    ran : (k from at n : ℕ) (p : Plain) → p .kinds ≡ ks → p .closed ≡ 0 → length (p .events) ≡ n → Sound N (stateOf N p)
+        → Ran p (handedOut N ks f body k from at n) (followed N ks f body k (encode table (stateOf N p)) from at n)
+    unfolding followed handedOut
+    ran zero from at n p kinds still-open events S = record { trail = refl; accepted = omega arith; taken = tt }
+    ran (suc k) from at n p kinds still-open events S =
+        let a : Answer = readFrom N ks n f from body at in
+        let e : Event = eventIn (a .event) in
+        ran-by from at n p kinds still-open events S (a .found) refl (handedOut N ks f body k (from + 8 + 4 * a .event .count) (a .next .at) (n + 1))
+        (λ (b : List ℕ). followed N ks f body k b (from + 8 + 4 * a .event .count) (a .next .at) (n + 1))
+        (λ q. ran k (from + 8 + 4 * a .event .count) (a .next .at) (n + 1) (accept p (event e)) kinds still-open
+        (omega (arith, length-append (p .events) (e ∷ []))) (sound-at p S e (accepts from at n p kinds still-open events S q)))
+
+-- Of a table that loads and a register that is taken: the trail that is left is the record of the plain run over the events
+-- handed out, each of which is accepted.
+pub plain-run : (table ks f : List ℕ) (body from : ℕ) → loadCode table ≡ 0 → registerCode (netOf table) ks ≡ 0 → PlainRun table ks f body from
+unfolding final eventsRead startRecord
+plain-run table ks f body from good ok =
+    let r = ran table good ks f body 1000001 from 0 0 (start ks) refl refl refl (sound-reached (netOf table) (promise table good) ks ok []) in
+    record { trail = r .trail; accepted = omega (arith, r .accepted); taken = r .taken; all = all-of (netOf table) (promise table good) ks f body from (startRecord table ks) }
