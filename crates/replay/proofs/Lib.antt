@@ -8,6 +8,7 @@ mod ObjectLaws
 mod PairLaws
 pub mod Permit
 pub mod RecordLaws
+pub mod Records
 pub mod Registers
 pub mod Rows
 pub mod Simulate
