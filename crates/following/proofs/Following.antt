@@ -9,7 +9,6 @@ use lib.Seq.{take-all}
 use Rattle.words.specs.Lists.{All}
 use Rattle.words.specs.Words.{wordsOf}
 use Rattle.words.proofs.Lists.{All-at, clash}
-use Rattle.net.specs.Net.{Net}
 use Rattle.net.specs.Held.{netIn}
 use Rattle.replay.specs.Plain.{Event, event, refusal}
 use Rattle.replay.specs.State.{State, acceptS}

@@ -18,7 +18,7 @@ use Rattle.tracefile.specs.declared.Found.the-variants as found
 use Rattle.tracefile.specs.Answers.{eventIn}
 use Rattle.tracefile.specs.Trace.{readFrom}
 use Rattle.tracefile.proofs.WindowLaws.{window-enough}
-use Rattle.following.specs.Followed.{Followed, byFound, behind, stops, trailAfter, outcomeAfter, stepTrail, stepOutcome, followed, final, goesOn}
+use Rattle.following.specs.Followed.{byFound, behind, stops, trailAfter, outcomeAfter, stepTrail, stepOutcome, followed, final, goesOn}
 use Rattle.following.specs.Window.{Window, Filled, Kept}
 use Rattle.following.specs.declared.Spot.{Spot}
 use Rattle.following.specs.declared.Outcome.{Outcome}

@@ -1,6 +1,7 @@
 -- What comes of all events of a trail file on a started trail is the plain run's. Assumes nothing.
 use Prim.Native.Nat.{ℕ, zero, suc, _+_, _*_}
-use mathlib.Core.Path.{_≡_, refl, ap, ap₂, sym, subst, _∙_}
+use mathlib.Core.Bool.{Bool, true, false}
+use mathlib.Core.Path.{_≡_, refl, ap, sym, subst, _∙_}
 use mathlib.Core.List.{List, [], _∷_, _++_, map}
 use native.Mathlib.Omega.{arith}
 use lib.ListN.{length, length-append}
@@ -10,14 +11,14 @@ use Rattle.words.specs.Lists.{pick, All}
 use Rattle.net.specs.Net.{Net, Loaded}
 use Rattle.net.specs.Table.{netOf, loadCode}
 use Rattle.net.proofs.Promise.{promise, table-size}
-use Rattle.replay.specs.Plain.{Event, event, Plain, registerCode, start, answer, accept, ask, run, answers, refusal}
-use Rattle.replay.specs.State.{State, stateOf, askS, acceptS, answerS}
+use Rattle.replay.specs.Plain.{Event, Ask, event, close, Plain, registerCode, start, answer, accept, ask, run, answers}
+use Rattle.replay.specs.State.{stateOf, acceptS, answerS}
 use Rattle.replay.specs.Sound.{Sound}
 use Rattle.replay.specs.Record.{encode, tableIn, stateIn}
 use Rattle.replay.specs.Calls.{netAt, stateAt, askCode, askBytes, startRecord}
 use Rattle.replay.proofs.Encode.{table-encode, state-encode}
 use Rattle.replay.proofs.Keep.{sound-ask}
-use Rattle.replay.proofs.Simulate.{answer-sim, ask-sim}
+use Rattle.replay.proofs.Simulate.{ask-sim}
 use Rattle.replay.proofs.Theorems.{sound-reached}
 use Rattle.tracefile.specs.declared.Answer.{Answer}
 use Rattle.tracefile.specs.declared.Found.{Found}
@@ -25,9 +26,17 @@ use Rattle.tracefile.specs.declared.Found.the-variants as found
 use Rattle.tracefile.specs.Answers.{eventIn}
 use Rattle.tracefile.specs.Trace.{readFrom}
 use Rattle.tracefile.proofs.HandedLaws.{handed}
-use Rattle.following.specs.Followed.{Followed, byFound, followed, final, handedOut, eventsRead}
-use Rattle.following.specs.Claims.{PlainRun}
+use Rattle.following.specs.Followed.{Followed, closedAfter, byFound, followed, final, handedOut, eventsRead}
+use Rattle.following.specs.Claims.{came, PlainRun}
 use Rattle.following.proofs.Body.{all-of}
+
+-- a run over two lists, and an event that is accepted
+run-append : (N : Net) (xs ys : List Ask) (p : Plain) → run N p (xs ++ ys) ≡ run N (run N p xs) ys
+run-append N [] ys p = refl
+run-append N (q ∷ xs) ys p = run-append N xs ys (ask N p q)
+
+next-is : (N : Net) (p : Plain) (q : Ask) → answer N p q ≡ 0 → ask N p q ≡ accept p q
+next-is N p q z = rw (eq-eqb (answer N p q) 0 z)
 
 module _ (table : List ℕ) (good : loadCode table ≡ 0) where
   abbrev N : Net
@@ -36,31 +45,32 @@ module _ (table : List ℕ) (good : loadCode table ≡ 0) where
   L : Loaded N
   L = promise table good
 
-  -- an event that a plain run accepts, put to the record of what it stores
-  module _ (p : Plain) (S : Sound N (stateOf N p)) (e : Event) (z : answer N p (event e) ≡ 0) where
-    table-at : tableIn (encode table (stateOf N p)) ≡ table
+  -- an event or a close put to the record of what a plain run stores
+  module _ (p : Plain) (S : Sound N (stateOf N p)) (q : Ask) where
+    abbrev made : List ℕ
+    made = encode table (stateOf N p)
+
+    table-at : tableIn made ≡ table
     table-at = table-encode N L table (stateOf N p) S (table-size table good .1)
 
-    net-at : netAt (encode table (stateOf N p)) ≡ N
+    net-at : netAt made ≡ N
     unfolding netAt
     net-at = ap netOf table-at
 
-    state-at : stateAt (encode table (stateOf N p)) ≡ stateOf N p
+    state-at : stateAt made ≡ stateOf N p
     unfolding stateAt
-    state-at = ap (λ (n : Net). stateIn n (encode table (stateOf N p))) net-at ∙ state-encode N L table (stateOf N p) S (table-size table good .1)
+    state-at = ap (λ (n : Net). stateIn n made) net-at ∙ state-encode N L table (stateOf N p) S (table-size table good .1)
 
-    next-is : ask N p (event e) ≡ accept p (event e)
-    next-is = rw (eq-eqb (answer N p (event e)) 0 z)
-
-    stored-is : acceptS N (stateOf N p) (event e) ≡ stateOf N (accept p (event e))
-    stored-is = sym (rw (answer-sim N p (event e), eq-eqb (answer N p (event e)) 0 z)) ∙ ask-sim N p (event e) ∙ ap (stateOf N) next-is
-
-    bytes-at : askBytes (encode table (stateOf N p)) (event e) ≡ encode table (stateOf N (accept p (event e)))
+    bytes-at : askBytes made q ≡ encode table (stateOf N (ask N p q))
     unfolding askBytes askCode
-    bytes-at = rw (net-at, state-at, table-at, eq-eqb (answer N p (event e)) 0 z) (ap (encode table) stored-is)
+    bytes-at = rw (net-at, state-at, table-at) (go (eqb (answerS N (stateOf N p) q) 0)) ∙ ap (encode table) (ask-sim N p q)
+      where
+        go : (t : Bool) → pick t (encode table (acceptS N (stateOf N p) q)) made ≡ encode table (pick t (acceptS N (stateOf N p) q) (stateOf N p))
+        go true = refl
+        go false = refl
 
-    sound-at : Sound N (stateOf N (accept p (event e)))
-    sound-at = subst (Sound N) (ask-sim N p (event e) ∙ ap (stateOf N) next-is) (sound-ask N L (stateOf N p) S (event e))
+    sound-at : Sound N (stateOf N (ask N p q))
+    sound-at = subst (Sound N) (ask-sim N p q) (sound-ask N L (stateOf N p) S q)
 
   -- the events that are handed out, from a plain run p on
   module _ (ks f : List ℕ) (body : ℕ) where
@@ -84,10 +94,12 @@ module _ (table : List ℕ) (good : loadCode table ≡ 0) where
           let e : Event = eventIn (here .event) in
           let z = accepts q in
           let m = more q in
+          let a = next-is N p (event e) z in
+          let b = bytes-at p S (event e) ∙ ap (λ (q : Plain). encode table (stateOf N q)) a in
           record {
-            trail = ap (λ (b : List ℕ). r b .trail) (bytes-at p S e z) ∙ m .trail ∙ ap (λ (q : Plain). encode table (stateOf N (run N q (map event es)))) (sym (next-is p S e z));
-            accepted = ap (λ (b : List ℕ). r b .accepted) (bytes-at p S e z) ∙ m .accepted ∙ omega (arith, length-append (p .events) (e ∷ []));
-            taken = (z, subst (λ (q : Plain). All (λ (c : ℕ). c ≡ 0) (answers N q (map event es))) (sym (next-is p S e z)) (m .taken));
+            trail = ap (λ (b : List ℕ). r b .trail) b ∙ m .trail ∙ ap (λ (q : Plain). encode table (stateOf N (run N q (map event es)))) (sym a);
+            accepted = ap (λ (b : List ℕ). r b .accepted) b ∙ m .accepted ∙ omega (arith, length-append (p .events) (e ∷ []));
+            taken = (z, subst (λ (q : Plain). All (λ (c : ℕ). c ≡ 0) (answers N q (map event es))) (sym a) (m .taken));
           }
       ran-by found.End q es r more = record { trail = refl; accepted = omega arith; taken = tt }
       ran-by (found.Refused c) q es r more = record { trail = refl; accepted = omega arith; taken = tt }
@@ -102,12 +114,32 @@ module _ (table : List ℕ) (good : loadCode table ≡ 0) where
         ran-by from at n p kinds still-open events S (a .found) refl (handedOut N ks f body k (from + 8 + 4 * a .event .count) (a .next .at) (n + 1))
         (λ (b : List ℕ). followed N ks f body k b (from + 8 + 4 * a .event .count) (a .next .at) (n + 1))
         (λ q. ran k (from + 8 + 4 * a .event .count) (a .next .at) (n + 1) (accept p (event e)) kinds still-open
-        (omega (arith, length-append (p .events) (e ∷ []))) (sound-at p S e (accepts from at n p kinds still-open events S q)))
+        (omega (arith, length-append (p .events) (e ∷ [])))
+        (subst (λ (p : Plain). Sound N (stateOf N p)) (next-is N p (event e) (accepts from at n p kinds still-open events S q)) (sound-at p S (event e))))
 
 -- Of a table that loads and a register that is taken: the trail that is left is the record of the plain run over the events
--- handed out, each of which is accepted.
+-- handed out, each of which is accepted; and of that run closed, where no event was refused.
 pub plain-run : (table ks f : List ℕ) (body from : ℕ) → loadCode table ≡ 0 → registerCode (netOf table) ks ≡ 0 → PlainRun table ks f body from
-unfolding final eventsRead startRecord
-plain-run table ks f body from good ok =
-    let r = ran table good ks f body 1000001 from 0 0 (start ks) refl refl refl (sound-reached (netOf table) (promise table good) ks ok []) in
-    record { trail = r .trail; accepted = omega (arith, r .accepted); taken = r .taken; all = all-of (netOf table) (promise table good) ks f body from (startRecord table ks) }
+unfolding final eventsRead startRecord closedAfter
+plain-run table ks f body from good ok = record {
+  trail = r .trail;
+  accepted = omega (arith, r .accepted);
+  taken = r .taken;
+  all = all-of N L ks f body from (startRecord table ks);
+  closed = λ z.
+      rw (eq-eqb (came table ks f body from .code) 0 z) (ap (λ (b : List ℕ). askBytes b close) (r .trail))
+      ∙ bytes-at table good (run N (start ks) es) (sound-reached N L ks ok es) close
+      ∙ ap (λ (p : Plain). encode table (stateOf N p)) (sym (run-append N es (close ∷ []) (start ks)));
+}
+  where
+    N : Net
+    N = netOf table
+
+    L : Loaded N
+    L = promise table good
+
+    es : List Ask
+    es = map event (handedOut N ks f body 1000001 from 0 0)
+
+    r : Ran table good ks f body (start ks) (handedOut N ks f body 1000001 from 0 0) (followed N ks f body 1000001 (encode table (stateOf N (start ks))) from 0 0)
+    r = ran table good ks f body 1000001 from 0 0 (start ks) refl refl refl (sound-reached N L ks ok [])

@@ -6,12 +6,12 @@ use lib.ListN.{length}
 use Rattle.words.specs.Lists.{All}
 use Rattle.net.specs.Net.{Net}
 use Rattle.net.specs.Table.{netOf}
-use Rattle.replay.specs.Plain.{Event, event, start, run, answers}
+use Rattle.replay.specs.Plain.{Event, event, close, start, run, answers}
 use Rattle.replay.specs.State.{stateOf}
 use Rattle.replay.specs.Record.{encode, wordsFrom}
 use Rattle.replay.specs.Calls.{startRecord}
 use Rattle.tracefile.specs.Trace.{readCode}
-use Rattle.following.specs.Followed.{Followed, final, eventsRead}
+use Rattle.following.specs.Followed.{Followed, closedAfter, final, eventsRead}
 
 -- events as the numbers of a body: activity, number of objects, objects
 abbrev pub numbers : List Event → List ℕ
@@ -34,9 +34,11 @@ module _ (table ks f : List ℕ) (body from : ℕ) where
   abbrev pub came : Followed
   came = final (netOf table) ks f body (startRecord table ks) from 0 0
 
-  -- the trail is the record of the plain run over these events; each is accepted
+  -- the trail is the record of the plain run over these events, each of which is accepted; and of that run closed, where
+  -- none was refused
   pub record PlainRun : Type 0 where
     pub trail : came .trail ≡ encode table (stateOf (netOf table) (run (netOf table) (start ks) (map event read)))
     pub accepted : came .accepted ≡ length read
     pub taken : All (λ (c : ℕ). c ≡ 0) (answers (netOf table) (start ks) (map event read))
+    pub closed : came .code ≡ 0 → closedAfter came ≡ encode table (stateOf (netOf table) (run (netOf table) (start ks) (map event read ++ close ∷ [])))
     pub all : AllOf (netOf table) ks f body from read (came .code)

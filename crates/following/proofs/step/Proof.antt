@@ -9,7 +9,6 @@ use Rattle.words.specs.Words.{wordsOf}
 use Rattle.net.specs.Held.{netIn}
 use Rattle.replay.specs.Plain.{Event, event, refusal}
 use Rattle.replay.specs.Calls.{askBytes}
-use Rattle.tracefile.specs.declared.Answer.{Answer}
 use Rattle.tracefile.specs.Trace.{readFrom}
 use Rattle.following.specs.declared.Outcome.{Outcome}
 use Rattle.following.specs.Followed.{stops}

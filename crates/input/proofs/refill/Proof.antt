@@ -1,6 +1,5 @@
 -- What was not used stays at the front, since the reading starts behind it. Assumes nothing.
-use mathlib.Core.Path.{_≡_, ap, sym, _∙_}
-use mathlib.Core.List.{List}
+use mathlib.Core.Path.{ap, sym, _∙_}
 use Prim.Native.Nat.{ℕ, _-_}
 use native.Mathlib.Omega.{arith}
 use lib.ListN.{length, take}

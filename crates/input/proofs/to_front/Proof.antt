@@ -1,13 +1,12 @@
 -- The bytes that are moved lie behind those that they overwrite, and what is moved and what is left are all bytes from `from` on.
 -- Assumes nothing.
-use Prim.Native.Nat.{ℕ, suc, _+_, _-_, _≤_, _<_}
+use Prim.Native.Nat.{ℕ, _+_, _-_, _≤_, _<_}
 use mathlib.Core.Path.{_≡_, refl, ap, sym, _∙_}
 use mathlib.Core.List.{List, [], _∷_, _++_, append-nil}
-use native.Mathlib.Nat.{add-zero}
 use native.Mathlib.Numerals.{add-one}
 use native.Mathlib.Omega.{arith}
 use lib.ListN.{length, take, drop, getD, set, length-set, drop-of-length-le}
-use lib.Seq.{append-snoc, drop-cons, drop-drop, drop-set-lt, getD-drop, take-suc-set}
+use lib.Seq.{append-snoc, drop-cons, drop-drop, drop-set-lt, take-suc-set}
 use Rattle.input.proofs.to_front.Statement.{statement}
 use Rattle.input.proofs.to_front.Tie as tie
 
