@@ -1,24 +1,20 @@
 -- What comes of all events of a trail file on a started trail is the plain run's. Assumes nothing.
 use Prim.Native.Nat.{ℕ, zero, suc, _+_, _*_}
-use mathlib.Core.Bool.{Bool, true, false}
 use mathlib.Core.Path.{_≡_, refl, ap, sym, subst, _∙_}
-use mathlib.Core.List.{List, [], _∷_, _++_, map}
+use mathlib.Core.List.{List, [], _∷_, map}
 use native.Mathlib.Omega.{arith}
 use lib.ListN.{length, length-append}
-use lib.Dec.{eqb}
 use borrow.Author.Tests.{eq-eqb}
-use Rattle.words.specs.Lists.{pick, All}
+use Rattle.words.specs.Lists.{All}
 use Rattle.net.specs.Net.{Net, Loaded}
 use Rattle.net.specs.Table.{netOf, loadCode}
-use Rattle.net.proofs.Promise.{promise, table-size}
-use Rattle.replay.specs.Plain.{Event, Ask, event, close, Plain, registerCode, start, answer, accept, ask, run, answers}
-use Rattle.replay.specs.State.{stateOf, acceptS, answerS}
+use Rattle.net.proofs.Promise.{promise}
+use Rattle.replay.specs.Plain.{Event, Ask, event, close, Plain, registerCode, start, answer, accept, run, answers}
+use Rattle.replay.specs.State.{stateOf}
 use Rattle.replay.specs.Sound.{Sound}
-use Rattle.replay.specs.Record.{encode, tableIn, stateIn}
-use Rattle.replay.specs.Calls.{netAt, stateAt, askCode, askBytes, startRecord}
-use Rattle.replay.proofs.Encode.{table-encode, state-encode}
-use Rattle.replay.proofs.Keep.{sound-ask}
-use Rattle.replay.proofs.Simulate.{ask-sim}
+use Rattle.replay.specs.Record.{encode}
+use Rattle.replay.specs.Calls.{askBytes, startRecord}
+use Rattle.replay.proofs.Records.{run-append, next-is, step-at, sound-at}
 use Rattle.replay.proofs.Theorems.{sound-reached}
 use Rattle.tracefile.specs.declared.Answer.{Answer}
 use Rattle.tracefile.specs.declared.Found.{Found}
@@ -30,47 +26,12 @@ use Rattle.following.specs.Followed.{Followed, closedAfter, byFound, fol
 use Rattle.following.specs.Claims.{came, PlainRun}
 use Rattle.following.proofs.Body.{all-of}
 
--- a run over two lists, and an event that is accepted
-run-append : (N : Net) (xs ys : List Ask) (p : Plain) → run N p (xs ++ ys) ≡ run N (run N p xs) ys
-run-append N [] ys p = refl
-run-append N (q ∷ xs) ys p = run-append N xs ys (ask N p q)
-
-next-is : (N : Net) (p : Plain) (q : Ask) → answer N p q ≡ 0 → ask N p q ≡ accept p q
-next-is N p q z = rw (eq-eqb (answer N p q) 0 z)
-
 module _ (table : List ℕ) (good : loadCode table ≡ 0) where
   abbrev N : Net
   N = netOf table
 
   L : Loaded N
   L = promise table good
-
-  -- an event or a close put to the record of what a plain run stores
-  module _ (p : Plain) (S : Sound N (stateOf N p)) (q : Ask) where
-    abbrev made : List ℕ
-    made = encode table (stateOf N p)
-
-    table-at : tableIn made ≡ table
-    table-at = table-encode N L table (stateOf N p) S (table-size table good .1)
-
-    net-at : netAt made ≡ N
-    unfolding netAt
-    net-at = ap netOf table-at
-
-    state-at : stateAt made ≡ stateOf N p
-    unfolding stateAt
-    state-at = ap (λ (n : Net). stateIn n made) net-at ∙ state-encode N L table (stateOf N p) S (table-size table good .1)
-
-    bytes-at : askBytes made q ≡ encode table (stateOf N (ask N p q))
-    unfolding askBytes askCode
-    bytes-at = rw (net-at, state-at, table-at) (go (eqb (answerS N (stateOf N p) q) 0)) ∙ ap (encode table) (ask-sim N p q)
-      where
-        go : (t : Bool) → pick t (encode table (acceptS N (stateOf N p) q)) made ≡ encode table (pick t (acceptS N (stateOf N p) q) (stateOf N p))
-        go true = refl
-        go false = refl
-
-    sound-at : Sound N (stateOf N (ask N p q))
-    sound-at = subst (Sound N) (ask-sim N p q) (sound-ask N L (stateOf N p) S q)
 
   -- the events that are handed out, from a plain run p on
   module _ (ks f : List ℕ) (body : ℕ) where
@@ -95,7 +56,7 @@ module _ (table : List ℕ) (good : loadCode table ≡ 0) where
           let z = accepts q in
           let m = more q in
           let a = next-is N p (event e) z in
-          let b = bytes-at p S (event e) ∙ ap (λ (q : Plain). encode table (stateOf N q)) a in
+          let b = step-at table good p S (event e) ∙ ap (λ (q : Plain). encode table (stateOf N q)) a in
           record {
             trail = ap (λ (b : List ℕ). r b .trail) b ∙ m .trail ∙ ap (λ (q : Plain). encode table (stateOf N (run N q (map event es)))) (sym a);
             accepted = ap (λ (b : List ℕ). r b .accepted) b ∙ m .accepted ∙ omega (arith, length-append (p .events) (e ∷ []));
@@ -115,7 +76,7 @@ module _ (table : List ℕ) (good : loadCode table ≡ 0) where
         (λ (b : List ℕ). followed N ks f body k b (from + 8 + 4 * a .event .count) (a .next .at) (n + 1))
         (λ q. ran k (from + 8 + 4 * a .event .count) (a .next .at) (n + 1) (accept p (event e)) kinds still-open
         (omega (arith, length-append (p .events) (e ∷ [])))
-        (subst (λ (p : Plain). Sound N (stateOf N p)) (next-is N p (event e) (accepts from at n p kinds still-open events S q)) (sound-at p S (event e))))
+        (subst (λ (p : Plain). Sound N (stateOf N p)) (next-is N p (event e) (accepts from at n p kinds still-open events S q)) (sound-at table good p S (event e))))
 
 -- Of a table that loads and a register that is taken: the trail that is left is the record of the plain run over the events
 -- handed out, each of which is accepted; and of that run closed, where no event was refused.
@@ -128,7 +89,7 @@ plain-run table ks f body from good ok = record {
   all = all-of N L ks f body from (startRecord table ks);
   closed = λ z.
       rw (eq-eqb (came table ks f body from .code) 0 z) (ap (λ (b : List ℕ). askBytes b close) (r .trail))
-      ∙ bytes-at table good (run N (start ks) es) (sound-reached N L ks ok es) close
+      ∙ step-at table good (run N (start ks) es) (sound-reached N L ks ok es) close
       ∙ ap (λ (p : Plain). encode table (stateOf N p)) (sym (run-append N es (close ∷ []) (start ks)));
 }
   where
