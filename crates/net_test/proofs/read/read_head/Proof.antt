@@ -6,10 +6,10 @@ use Rattle.net_test.proofs.read.read_head.Statement.{statement}
 use Rattle.net_test.proofs.read.read_head.Tie as tie
 
 abbrev Inv-loop : tie.InvT-loop
-Inv-loop s v₀ n₀ before₀ i₀ v n before i = (i ≤ length s) × (n ≤ 40)
+Inv-loop s v₀ from n₀ before₀ i₀ v n before i = (i ≤ length s) × (n ≤ 40)
 
 abbrev μ-loop : tie.MeasureT-loop
-μ-loop s v₀ n₀ before₀ i₀ v n before i = length s - i
+μ-loop s v₀ from n₀ before₀ i₀ v n before i = length s - i
 
 loop-holds : tie.Need-loop-holds Inv-loop μ-loop
 loop-holds c = search needs
@@ -22,6 +22,9 @@ class-requires c κs = search needs
 
 take-requires : tie.Need-take-requires Inv-loop μ-loop
 take-requires c κs = search needs
+
+closed-requires : tie.Need-closed-requires Inv-loop μ-loop
+closed-requires c κs = search needs
 
 returns : tie.Need-returns Inv-loop μ-loop
 returns c = search needs
@@ -48,6 +51,7 @@ read-head-spec =
     shared-slice-read-class
     class-requires
     take-requires
+    closed-requires
     returns
     add-i
     loop-less

@@ -5,10 +5,10 @@ use Rattle.net_test.proofs.table.edit.Statement.{statement}
 use Rattle.net_test.proofs.table.edit.Tie as tie
 
 abbrev Inv-loop : tie.InvT-loop
-Inv-loop b₀ v from n i₀ b i = i ≤ 40
+Inv-loop b₀ v n i₀ b i = i ≤ 40
 
 abbrev μ-loop : tie.MeasureT-loop
-μ-loop b₀ v from n i₀ b i = 40 - i
+μ-loop b₀ v n i₀ b i = 40 - i
 
 loop-holds : tie.Need-loop-holds Inv-loop μ-loop
 loop-holds c = search needs
@@ -16,20 +16,14 @@ loop-holds c = search needs
 add-loop : tie.Need-add-loop Inv-loop μ-loop
 add-loop c = search needs
 
-mul-put : tie.Need-mul-put Inv-loop μ-loop
-mul-put c = search needs
+nth-requires : tie.Need-nth-requires Inv-loop μ-loop
+nth-requires c κs = search needs
 
-element-copy-out-put : tie.Need-element-copy-out-put Inv-loop μ-loop
-element-copy-out-put c = search needs
+add-nth : tie.Need-add-nth Inv-loop μ-loop
+add-nth c = search needs
 
-add-put : tie.Need-add-put Inv-loop μ-loop
-add-put c = search needs
-
-mul-put-2 : tie.Need-mul-put-2 Inv-loop μ-loop
-mul-put-2 c = search needs
-
-element-copy-out-put-2 : tie.Need-element-copy-out-put-2 Inv-loop μ-loop
-element-copy-out-put-2 c = search needs
+nth-requires-2 : tie.Need-nth-requires-2 Inv-loop μ-loop
+nth-requires-2 c κs = search needs
 
 put-requires : tie.Need-put-requires Inv-loop μ-loop
 put-requires c κs = search needs
@@ -57,11 +51,9 @@ edit-spec =
     μ-loop
     loop-holds
     add-loop
-    mul-put
-    element-copy-out-put
-    add-put
-    mul-put-2
-    element-copy-out-put-2
+    nth-requires
+    add-nth
+    nth-requires-2
     put-requires
     returns
     add-i

@@ -5,10 +5,10 @@ use Rattle.net_test.proofs.table.fill.Statement.{statement}
 use Rattle.net_test.proofs.table.fill.Tie as tie
 
 abbrev Inv-loop : tie.InvT-loop
-Inv-loop b₀ kinds places acts arcs links i₀ b i = i ≤ 1200
+Inv-loop b₀ kinds places acts arcs i₀ b i = i ≤ 1200
 
 abbrev μ-loop : tie.MeasureT-loop
-μ-loop b₀ kinds places acts arcs links i₀ b i = 1200 - i
+μ-loop b₀ kinds places acts arcs i₀ b i = 1200 - i
 
 loop-holds : tie.Need-loop-holds Inv-loop μ-loop
 loop-holds c = search needs
