@@ -1,121 +1,96 @@
-// Reading a line of the case file.
+// Reading the case file.
 
+use crate::show::text;
+ghost use mathlib.Core.Path.{_≡_};
 ghost use Prim.Native.Nat.{_<_, _≤_};
 ghost use lib.ListN.{length};
 
-// The first byte from `at` on that is b, or the end of s.
-pub fn find(s: &[u8], at: usize, b: u8) -> usize
-    requires { ⌜ at ≤ length (now s) ⌝ }
-    ensures { λ r. ⌜ (at ≤ r) × (r ≤ length (now (s .entry))) ⌝ }
+// A number of a line, and where the reading goes on; or where it stopped because there is none.
+pub struct Found {
+    pub there: bool,
+    pub value: u32,
+    pub next: usize,
+}
+
+pub fn byte(s: &[u8], at: usize) -> u8 {
+    if at < s.len() { s[at] } else { 0 }
+}
+
+// Behind the first byte from `at` on that is b, or the end.
+pub fn after(s: &[u8], at: usize, b: u8) -> usize
+    ensures { λ r. ⌜ (r ≤ length (now (s .entry))) × (at < length (now (s .entry)) → at < r) ⌝ }
 {
     let mut i = at;
     while i < s.len() {
         if s[i] == b {
-            return i;
+            return i + 1;
         }
         i += 1;
     }
-    i
+    s.len()
 }
 
-// Where the numbers of a line go that begins with this letter: 0 to 3 are what the table is built from, 4 is how many bytes of it
-// are loaded, then come the numbers to replace.
-pub fn start(letter: u8) -> usize
-    ensures { λ r. ⌜ r ≤ 40 ⌝ }
-{
-    match letter {
-        b's' => 0,
-        b'c' => 3,
-        b'M' | b'w' => 4,
-        b't' => 5,
-        _ => 40,
+// Writes the bytes from a to e.
+pub fn put_part(s: &[u8], a: usize, e: usize) {
+    if a <= e {
+        if e <= s.len() {
+            text(&s[a..e]);
+        }
     }
 }
 
-// What the byte is to a case: 0 to 9 a digit, 10 a byte between numbers, 11 their end, 12 no part of it.
+// What the byte is to a case: 0 to 9 a digit, 10 a byte between numbers, 11 any other.
 fn class(b: u8) -> u8 {
     match b {
         b'0'..=b'9' => b - 48,
         b' ' | b',' | b'=' | b'M' | b'a'..=b'z' => 10,
-        b':' => 11,
-        _ => 12,
+        _ => 11,
     }
 }
 
-pub fn nth(v: &[u32; 40], i: usize) -> u32
-    requires { ⌜ i < 40 ⌝ }
-{
-    v[i]
-}
-
-// The number x with one digit more.
-fn longer(x: u32, digit: u8) -> u64 {
-    10 * (x as u64) + (digit as u64)
-}
-
-// Number n gets one digit more: n, or 40 where it is then over 2^32 - 1.
-fn digit(v: &mut [u32; 40], n: usize, c: u8) -> usize
-    requires { ⌜ n < 40 ⌝ }
-    ensures { λ r. ⌜ r ≤ 40 ⌝ }
-{
-    let x = longer(v[n], c);
-    if 4294967295 < x {
-        return 40;
+// No number: the reading stops.
+pub fn nothing(next: usize) -> Found {
+    Found {
+        there: false,
+        value: 0,
+        next: next,
     }
-    v[n] = x as u32;
-    n
 }
 
-// A byte of class c behind one of class `before`: a digit goes into number n, any other byte ends the number. Gives which number
-// is next, or 40 where there are too many, one is too large or the byte may not stand there.
-fn take(v: &mut [u32; 40], n: usize, before: u8, c: u8) -> usize
-    ensures { λ r. ⌜ r ≤ 40 ⌝ }
-{
-    if 40 <= n {
-        return 40;
-    }
-    if c < 10 {
-        return digit(v, n, c);
-    }
-    if c == 12 {
-        return 40;
-    }
-    if before < 10 { n + 1 } else { n }
-}
-
-// What stands before the label of a line: the numbers up to n, or n is 40 where it cannot be read.
-pub struct Head {
-    pub n: usize,
-    pub label: usize,
-}
-
-// The colon is byte i of a line of `size` bytes; one blank follows it.
-fn closed(n: usize, i: usize, size: usize) -> Head
-    requires { ⌜ (n ≤ 40) × (i ≤ size) ⌝ }
-    ensures { λ r. ⌜ (r .n ≤ 40) × (r .label ≤ size) ⌝ }
-{
-    if size - i < 2 {
-        return Head { n: 40, label: i };
-    }
-    Head { n: n, label: i + 2 }
-}
-
-// Reads the numbers of a line into v, which has zeros, from number `from` on.
-pub fn read_head(s: &[u8], v: &mut [u32; 40], from: usize) -> Head
-    requires { ⌜ from ≤ 40 ⌝ }
-    ensures { λ r. ⌜ (r .n ≤ 40) × (r .label ≤ length (now (s .entry))) ⌝ }
-{
-    let mut n = from;
-    let mut before = 10;
-    let mut i = 0;
+// The number whose first digit is byte `at`, unless it is over 2^32 - 1.
+fn digits(s: &[u8], at: usize) -> Found {
+    let mut x: u64 = 0;
+    let mut i = at;
     while i < s.len() {
         let c = class(s[i]);
-        n = take(v, n, before, c);
-        if c == 11 {
-            return closed(n, i, s.len());
+        if 9 < c {
+            return Found {
+                there: true,
+                value: x as u32,
+                next: i,
+            };
         }
-        before = c;
+        x = 10 * x + (c as u64);
+        if 4294967295 < x {
+            return nothing(s.len());
+        }
         i += 1;
     }
-    Head { n: 40, label: i }
+    nothing(i)
+}
+
+// The next number from `at` on, if there is one before a byte that stands neither in nor between numbers.
+pub fn number(s: &[u8], at: usize) -> Found {
+    let mut i = at;
+    while i < s.len() {
+        let c = class(s[i]);
+        if c < 10 {
+            return digits(s, i);
+        }
+        if 10 < c {
+            return nothing(i);
+        }
+        i += 1;
+    }
+    nothing(i)
 }

@@ -1,6 +1,7 @@
 // The line of a table: what loading answers, and what becomes of the lent words.
 
-use crate::read::find;
+use crate::read::after;
+use crate::read::put_part;
 use net::LoadAnswer;
 use net::look;
 use words::wide;
@@ -38,23 +39,28 @@ const CHANGED: usize = 100;
 
 const BAD: usize = 110;
 
-const END: usize = 121;
+pub const END: usize = 121;
 
 pub fn text(s: &[u8]) {
     io::write_all(libc::STDOUT_FILENO, s);
 }
 
+fn put_phrase(s: &[u8], at: usize) {
+    let end = after(s, at, b'|');
+    if at < end {
+        put_part(s, at, end - 1);
+    }
+}
+
 // The phrase that begins at byte `at` of all phrases.
 pub fn phrase(at: usize) {
-    let all: &[u8] =
+    put_phrase(
         b"; kind | from | to |; place | of |; activity |, kind |, | kinds, | places, | activities|, unchanged|\
         , CHANGED|bad case: |\n|\
         : Taken |: Length |: Layout |: Size |: PlaceKind |: Ends |: Arcs |: ArcPlaces |: TwoOfKind |\
-        : Unreached |";
-    if at < all.len() {
-        let end = find(all, at, b'|');
-        text(&all[at..end]);
-    }
+        : Unreached |",
+        at,
+    );
 }
 
 // A phrase and a number.
@@ -218,7 +224,7 @@ fn put_net(t: &[u32; 1684], whole: bool)
 }
 
 // Loads the table s, and writes the answer and what the words hold then.
-fn load(s: &[u8], whole: bool) {
+pub fn load(s: &[u8], whole: bool) {
     let mut t = [0u32; 1684];
     fill(&mut t);
     let a = loader::load(s, &mut t);
@@ -229,16 +235,8 @@ fn load(s: &[u8], whole: bool) {
     }
 }
 
-// The whole line.
-pub fn put_line(label: &[u8], s: &[u8], whole: bool) {
-    text(label);
-    load(s, whole);
-    phrase(END);
-}
-
 // A line of the case file that cannot be read.
-pub fn put_bad(s: &[u8]) {
+pub fn put_bad(s: &[u8], at: usize) {
     phrase(BAD);
-    text(s);
-    phrase(END);
+    put_part(s, at, after(s, at, b'\n'));
 }

@@ -1,8 +1,20 @@
 // Route tables in a buffer of 4,800 bytes, written number by number.
 
-use crate::read::nth;
+use crate::read::Found;
+use crate::read::byte;
+use crate::read::nothing;
+use crate::read::number;
 use words::wide;
 ghost use Prim.Native.Nat.{_≤_};
+
+// So many kinds, places, activities, and arcs of each activity, which go from source to sink or are the links of a chain.
+struct Sizes {
+    kinds: u32,
+    places: u32,
+    acts: u32,
+    arcs: u32,
+    chain: bool,
+}
 
 // Number i of the buffer becomes x. False where the buffer has no such number.
 fn put(b: &mut [u8; 4800], i: u32, x: u32) -> bool {
@@ -13,18 +25,34 @@ fn put(b: &mut [u8; 4800], i: u32, x: u32) -> bool {
     true
 }
 
-// The pairs of v from number 5 up to n: number of the table, what it becomes. False where there is no such number, or half a pair.
-pub fn edit(b: &mut [u8; 4800], v: &[u32; 40], n: usize) -> bool
-    requires { ⌜ n ≤ 40 ⌝ }
-{
-    let mut i = 5;
-    while i + 1 < n {
-        if !put(b, nth(v, i), nth(v, i + 1)) {
-            return false;
-        }
-        i += 2;
+// Puts the pair from byte `at` on: number of the table, what it becomes. There is none where the table has no such number.
+fn put_pair(b: &mut [u8; 4800], s: &[u8], at: usize) -> Found {
+    let i = number(s, at);
+    if !i.there {
+        return i;
     }
-    i == n
+    let x = number(s, i.next);
+    if x.there {
+        if put(b, i.value, x.value) {
+            return x;
+        }
+    }
+    nothing(s.len())
+}
+
+// Puts the pairs from byte `from` on. False where anything but pairs stands before the colon.
+pub fn edit(b: &mut [u8; 4800], s: &[u8], from: usize) -> bool {
+    let mut at = from;
+    let mut n: usize = 0;
+    while n < 40 {
+        let x = put_pair(b, s, at);
+        if !x.there {
+            return byte(s, x.next) == b':';
+        }
+        at = x.next;
+        n += 1;
+    }
+    false
 }
 
 fn product(x: u32, y: u32) -> u32
@@ -34,19 +62,19 @@ fn product(x: u32, y: u32) -> u32
     x * y
 }
 
-// Number i of the contents of a table of so many kinds, places, activities, and arcs of each activity.
-fn content(i: u32, kinds: u32, places: u32, acts: u32, arcs: u32) -> u32
-    requires { ⌜ (kinds ≤ 999) × (places ≤ 999) × (acts ≤ 999) × (arcs ≤ 999) ⌝ }
+// Number i of a table's contents.
+fn content(i: u32, z: Sizes) -> u32
+    requires { ⌜ (z .kinds ≤ 999) × (z .places ≤ 999) × (z .acts ≤ 999) × (z .arcs ≤ 999) ⌝ }
 {
     match i {
         0 => 32,
-        1 => 8 * kinds,
-        2 => 32 + 8 * kinds,
-        3 => 4 * places,
-        4 => 32 + 8 * kinds + 4 * places,
-        5 => 4 * acts,
-        6 => 32 + 8 * kinds + 4 * places + 4 * acts,
-        _ => 8 * product(acts, arcs),
+        1 => 8 * z.kinds,
+        2 => 32 + 8 * z.kinds,
+        3 => 4 * z.places,
+        4 => 32 + 8 * z.kinds + 4 * z.places,
+        5 => 4 * z.acts,
+        6 => 32 + 8 * z.kinds + 4 * z.places + 4 * z.acts,
+        _ => 8 * product(z.acts, z.arcs),
     }
 }
 
@@ -70,79 +98,99 @@ fn link(x: u32, n: u32) -> u32 {
     if x / 2 < n { n - 1 - x / 2 + x % 2 } else { 0 }
 }
 
-// Number i of a table of so many kinds, places, activities, and arcs of each activity, and of more arcs behind it. The places are
-// of the kinds in turn.
-fn number(i: u32, kinds: u32, places: u32, acts: u32, arcs: u32) -> u32
-    requires { ⌜ (kinds ≤ 999) × (places ≤ 999) × (acts ≤ 999) × (arcs ≤ 999) ⌝ }
+// Number i of a table, or of what goes on behind it as its arcs do. The places are of the kinds in turn.
+fn value(i: u32, z: Sizes) -> u32
+    requires { ⌜ (z .kinds ≤ 999) × (z .places ≤ 999) × (z .acts ≤ 999) × (z .arcs ≤ 999) ⌝ }
 {
     if i < 8 {
-        return content(i, kinds, places, acts, arcs);
+        return content(i, z);
     }
-    let p = 8 + 2 * kinds;
+    let p = 8 + 2 * z.kinds;
     if i < p {
-        return route(i - 8, kinds);
+        return route(i - 8, z.kinds);
     }
-    if i - p < places {
-        return turn(i - p, kinds);
+    let a = p + z.places;
+    if i < a {
+        return turn(i - p, z.kinds);
     }
-    let a = p + places;
-    if i - a < acts {
-        return arcs;
+    let c = a + z.acts;
+    if i < c {
+        return z.arcs;
     }
-    route(i - a - acts, kinds)
+    if z.chain {
+        link(i - c, z.acts)
+    } else {
+        route(i - c, z.kinds)
+    }
 }
 
-fn fill(b: &mut [u8; 4800], kinds: u32, places: u32, acts: u32, arcs: u32)
-    requires { ⌜ (kinds ≤ 999) × (places ≤ 999) × (acts ≤ 999) × (arcs ≤ 999) ⌝ }
+fn fill(b: &mut [u8; 4800], z: Sizes)
+    requires { ⌜ (z .kinds ≤ 999) × (z .places ≤ 999) × (z .acts ≤ 999) × (z .arcs ≤ 999) ⌝ }
 {
     let mut i = 0;
     while i < 1200 {
-        put(b, i, number(i, kinds, places, acts, arcs));
+        put(b, i, value(i, z));
         i += 1;
     }
 }
 
-// A table of so many kinds, places, activities, and arcs of each activity. False where a number is over 999.
 fn sized(b: &mut [u8; 4800], kinds: u32, places: u32, acts: u32, arcs: u32) -> bool {
     if 999 < wide(kinds) + wide(places) + wide(acts) + wide(arcs) {
         return false;
     }
-    fill(b, kinds, places, acts, arcs);
+    fill(
+        b,
+        Sizes {
+            kinds: kinds,
+            places: places,
+            acts: acts,
+            arcs: arcs,
+            chain: false,
+        },
+    );
     true
 }
 
-fn links(b: &mut [u8; 4800], at: u32, n: u32)
-    requires { ⌜ at ≤ 999 ⌝ }
-{
-    let mut x = 0;
-    while x < 1200 {
-        put(b, at + x, link(x, n));
-        x += 1;
+// A table of the sizes that the line gives from byte `at` on. Where the reading goes on, or the end where it cannot be built.
+fn build_sized(b: &mut [u8; 4800], s: &[u8], at: usize) -> usize {
+    let k = number(s, at);
+    let p = number(s, k.next);
+    let a = number(s, p.next);
+    let r = number(s, a.next);
+    if sized(b, k.value, p.value, a.value, r.value) {
+        r.next
+    } else {
+        s.len()
     }
 }
 
-// A table of one kind, its places 0 to n, and an activity for each link of their chain, the last link first.
-fn chain(b: &mut [u8; 4800], n: u32) -> bool {
+// One kind, the places 0 to n, and an activity for each link of their chain, the last link first.
+fn build_chain(b: &mut [u8; 4800], s: &[u8], at: usize) -> usize {
+    let r = number(s, at);
+    let n = r.value;
     if 99 < n {
-        return false;
+        return s.len();
     }
-    fill(b, 1, n + 1, n, 1);
+    fill(
+        b,
+        Sizes {
+            kinds: 1,
+            places: n + 1,
+            acts: n,
+            arcs: 1,
+            chain: true,
+        },
+    );
     put(b, 9, n);
-    links(b, 11 + 2 * n, n);
-    true
+    r.next
 }
 
-// Builds the table that the letter names over table M, and puts what is to be replaced. False where that cannot be.
-pub fn build(b: &mut [u8; 4800], letter: u8, v: &[u32; 40], n: usize) -> bool
-    requires { ⌜ n ≤ 40 ⌝ }
-{
-    let built = match letter {
-        b's' => sized(b, nth(v, 0), nth(v, 1), nth(v, 2), nth(v, 3)),
-        b'c' => chain(b, nth(v, 3)),
-        _ => true,
-    };
-    if !built {
-        return false;
+// Builds the table that the line names over table M. Where the reading goes on, or the end where it cannot be built.
+pub fn build(b: &mut [u8; 4800], letter: u8, s: &[u8], at: usize) -> usize {
+    match letter {
+        b'M' | b'w' => at,
+        b's' => build_sized(b, s, at),
+        b'c' => build_chain(b, s, at),
+        _ => s.len(),
     }
-    edit(b, v, n)
 }

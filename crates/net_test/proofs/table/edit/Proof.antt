@@ -1,38 +1,29 @@
--- The pairs up to `i` are put. Assumes nothing.
+-- At most 40 pairs are put. Assumes nothing.
 use Prim.Native.Nat.{_≤_, _-_}
 use borrow.Author.Needs.{needs}
 use Rattle.net_test.proofs.table.edit.Statement.{statement}
 use Rattle.net_test.proofs.table.edit.Tie as tie
 
 abbrev Inv-loop : tie.InvT-loop
-Inv-loop b₀ v n i₀ b i = i ≤ 40
+Inv-loop b₀ s from at₀ n₀ b at n = n ≤ 40
 
 abbrev μ-loop : tie.MeasureT-loop
-μ-loop b₀ v n i₀ b i = 40 - i
+μ-loop b₀ s from at₀ n₀ b at n = 40 - n
 
 loop-holds : tie.Need-loop-holds Inv-loop μ-loop
 loop-holds c = search needs
 
-add-loop : tie.Need-add-loop Inv-loop μ-loop
-add-loop c = search needs
+put-pair-requires : tie.Need-put-pair-requires Inv-loop μ-loop
+put-pair-requires c κs = search needs
 
-nth-requires : tie.Need-nth-requires Inv-loop μ-loop
-nth-requires c κs = search needs
-
-add-nth : tie.Need-add-nth Inv-loop μ-loop
-add-nth c = search needs
-
-nth-requires-2 : tie.Need-nth-requires-2 Inv-loop μ-loop
-nth-requires-2 c κs = search needs
-
-put-requires : tie.Need-put-requires Inv-loop μ-loop
-put-requires c κs = search needs
+byte-requires : tie.Need-byte-requires Inv-loop μ-loop
+byte-requires c κs = search needs
 
 returns : tie.Need-returns Inv-loop μ-loop
 returns c = search needs
 
-add-i : tie.Need-add-i Inv-loop μ-loop
-add-i c = search needs
+add-n : tie.Need-add-n Inv-loop μ-loop
+add-n c = search needs
 
 loop-less : tie.Need-loop-less Inv-loop μ-loop
 loop-less c = search needs
@@ -50,13 +41,10 @@ edit-spec =
     Inv-loop
     μ-loop
     loop-holds
-    add-loop
-    nth-requires
-    add-nth
-    nth-requires-2
-    put-requires
+    put-pair-requires
+    byte-requires
     returns
-    add-i
+    add-n
     loop-less
     loop-again
     returns-2)
