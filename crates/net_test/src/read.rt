@@ -1,81 +1,96 @@
-// Reading a line of the case file.
+// Reading the case file.
 
-ghost use Prim.Native.Nat.{_≤_};
+use crate::show::text;
+ghost use mathlib.Core.Path.{_≡_};
+ghost use Prim.Native.Nat.{_<_, _≤_};
 ghost use lib.ListN.{length};
 
-// The first byte from `at` on that is b, or the end of s.
-pub fn find(s: &[u8], at: usize, b: u8) -> usize
-    requires { ⌜ at ≤ length (now s) ⌝ }
-    ensures { λ r. ⌜ (at ≤ r) × (r ≤ length (now (s .entry))) ⌝ }
+// A number of a line, and where the reading goes on; or where it stopped because there is none.
+pub struct Found {
+    pub there: bool,
+    pub value: u32,
+    pub next: usize,
+}
+
+pub fn byte(s: &[u8], at: usize) -> u8 {
+    if at < s.len() { s[at] } else { 0 }
+}
+
+// Behind the first byte from `at` on that is b, or the end.
+pub fn after(s: &[u8], at: usize, b: u8) -> usize
+    ensures { λ r. ⌜ (r ≤ length (now (s .entry))) × (at < length (now (s .entry)) → at < r) ⌝ }
 {
     let mut i = at;
     while i < s.len() {
         if s[i] == b {
-            return i;
+            return i + 1;
         }
         i += 1;
     }
-    i
+    s.len()
 }
 
-// What the byte is to a case: 0 to 9 a digit, 10 a byte between numbers, 11 their end, 12 no part of it.
+// Writes the bytes from a to e.
+pub fn put_part(s: &[u8], a: usize, e: usize) {
+    if a <= e {
+        if e <= s.len() {
+            text(&s[a..e]);
+        }
+    }
+}
+
+// What the byte is to a case: 0 to 9 a digit, 10 a byte between numbers, 11 any other.
 fn class(b: u8) -> u8 {
     match b {
         b'0'..=b'9' => b - 48,
         b' ' | b',' | b'=' | b'M' | b'a'..=b'z' => 10,
-        b':' => 11,
-        _ => 12,
+        _ => 11,
     }
 }
 
-// The number x with one digit more.
-fn longer(x: u32, digit: u8) -> u64 {
-    10 * (x as u64) + (digit as u64)
+// No number: the reading stops.
+pub fn nothing(next: usize) -> Found {
+    Found {
+        there: false,
+        value: 0,
+        next: next,
+    }
 }
 
-// A byte of class c behind one of class `before`: a digit goes into number n, any other byte ends the number. Gives how many
-// numbers have ended, or 40 where there are too many, one is over 2^32 - 1 or the byte may not stand there.
-fn take(v: &mut [u32; 40], n: usize, before: u8, c: u8) -> usize
-    ensures { λ r. ⌜ r ≤ 40 ⌝ }
-{
-    if 40 <= n {
-        return 40;
-    }
-    if c < 10 {
-        let x = longer(v[n], c);
-        if 4294967295 < x {
-            return 40;
-        }
-        v[n] = x as u32;
-        return n;
-    }
-    if c == 12 {
-        return 40;
-    }
-    if before < 10 { n + 1 } else { n }
-}
-
-// What stands before the colon of a line: n numbers, or 40 where it cannot be read. The colon is byte `end`.
-pub struct Head {
-    pub n: usize,
-    pub end: usize,
-}
-
-// Reads the numbers of a line into v, which has zeros.
-pub fn read_head(s: &[u8], v: &mut [u32; 40]) -> Head
-    ensures { λ r. ⌜ (r .n ≤ 40) × (r .end ≤ length (now (s .entry))) ⌝ }
-{
-    let mut n = 0;
-    let mut before = 10;
-    let mut i = 0;
+// The number whose first digit is byte `at`, unless it is over 2^32 - 1.
+fn digits(s: &[u8], at: usize) -> Found {
+    let mut x: u64 = 0;
+    let mut i = at;
     while i < s.len() {
         let c = class(s[i]);
-        n = take(v, n, before, c);
-        if c == 11 {
-            return Head { n: n, end: i };
+        if 9 < c {
+            return Found {
+                there: true,
+                value: x as u32,
+                next: i,
+            };
         }
-        before = c;
+        x = 10 * x + (c as u64);
+        if 4294967295 < x {
+            return nothing(s.len());
+        }
         i += 1;
     }
-    Head { n: 40, end: i }
+    nothing(i)
+}
+
+// The next number from `at` on, if there is one before a byte that stands neither in nor between numbers.
+pub fn number(s: &[u8], at: usize) -> Found {
+    let mut i = at;
+    while i < s.len() {
+        let c = class(s[i]);
+        if c < 10 {
+            return digits(s, i);
+        }
+        if 10 < c {
+            return nothing(i);
+        }
+        i += 1;
+    }
+    nothing(i)
 }

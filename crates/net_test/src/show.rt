@@ -1,50 +1,93 @@
 // The line of a table: what loading answers, and what becomes of the lent words.
 
-use crate::read::find;
+use crate::read::after;
+use crate::read::put_part;
 use net::LoadAnswer;
 use net::look;
 use words::wide;
 ghost use mathlib.Core.Path.{_≡_};
-ghost use Prim.Native.Nat.{_<_, _≤_};
+ghost use Prim.Native.Nat.{_<_};
 ghost use lib.ListN.{length};
 ghost use Rattle.net.specs.Held.{Held, netIn};
+
+// Where the phrases begin that `phrase` writes.
+const KIND: usize = 0;
+
+const FROM: usize = 8;
+
+const TO: usize = 15;
+
+const PLACE: usize = 20;
+
+const OF: usize = 29;
+
+const ACT: usize = 34;
+
+const ARC: usize = 46;
+
+const KINDS: usize = 54;
+
+const PLACES: usize = 57;
+
+const ACTS: usize = 66;
+
+const ALL: usize = 76;
+
+const UNCHANGED: usize = 88;
+
+const CHANGED: usize = 100;
+
+const BAD: usize = 110;
+
+pub const END: usize = 121;
 
 pub fn text(s: &[u8]) {
     io::write_all(libc::STDOUT_FILENO, s);
 }
 
-fn say(s: &[u8], n: usize) {
-    text(s);
+fn put_phrase(s: &[u8], at: usize) {
+    let end = after(s, at, b'|');
+    if at < end {
+        put_part(s, at, end - 1);
+    }
+}
+
+// The phrase that begins at byte `at` of all phrases.
+pub fn phrase(at: usize) {
+    put_phrase(
+        b"; kind | from | to |; place | of |; activity |, kind |, | kinds, | places, | activities|, unchanged|\
+        , CHANGED|bad case: |\n|\
+        : Taken |: Length |: Layout |: Size |: PlaceKind |: Ends |: Arcs |: ArcPlaces |: TwoOfKind |\
+        : Unreached |",
+        at,
+    );
+}
+
+// A phrase and a number.
+fn say(at: usize, n: usize) {
+    phrase(at);
     io::print_decimal(libc::STDOUT_FILENO, n as u64);
 }
 
-// Where the answer's name begins in the text of `put_answer`.
-fn name_at(a: LoadAnswer) -> usize
-    ensures { λ r. ⌜ r ≤ 90 ⌝ }
-{
+// The phrase for an answer.
+fn name(a: LoadAnswer) -> usize {
     match a {
-        LoadAnswer::Taken => 0,
-        LoadAnswer::Length => 10,
-        LoadAnswer::Layout => 20,
-        LoadAnswer::Size => 30,
-        LoadAnswer::PlaceKind => 40,
-        LoadAnswer::Ends => 50,
-        LoadAnswer::Arcs => 60,
-        LoadAnswer::ArcPlaces => 70,
-        LoadAnswer::TwoOfKind => 80,
-        LoadAnswer::Unreached => 90,
+        LoadAnswer::Taken => 123,
+        LoadAnswer::Length => 132,
+        LoadAnswer::Layout => 142,
+        LoadAnswer::Size => 152,
+        LoadAnswer::PlaceKind => 160,
+        LoadAnswer::Ends => 173,
+        LoadAnswer::Arcs => 181,
+        LoadAnswer::ArcPlaces => 189,
+        LoadAnswer::TwoOfKind => 202,
+        LoadAnswer::Unreached => 215,
     }
 }
 
 // The answer's name and number.
 fn put_answer(a: LoadAnswer) {
-    let names: &[u8] =
-        b"Taken     Length    Layout    Size      PlaceKind Ends      Arcs      ArcPlaces TwoOfKind Unreached ";
-    let at = name_at(a);
-    let end = find(names, at, b' ');
-    text(b": ");
-    text(&names[at..end]);
-    say(b" ", wide(net::number(a)));
+    say(name(a), wide(net::number(a)));
 }
 
 // What word i holds before a table is loaded.
@@ -76,13 +119,21 @@ fn filled(t: &[u32; 1684]) -> bool {
     true
 }
 
+fn put_words(t: &[u32; 1684]) {
+    if filled(t) {
+        phrase(UNCHANGED);
+    } else {
+        phrase(CHANGED);
+    }
+}
+
 fn put_ends(t: &[u32; 1684], k: usize)
     requires { ⌜ Held (now t) ⌝ }
 {
     if k < look::kinds(t) {
-        say(b"; kind ", k);
-        say(b" from ", look::source(t, k));
-        say(b" to ", look::sink(t, k));
+        say(KIND, k);
+        say(FROM, look::source(t, k));
+        say(TO, look::sink(t, k));
     }
 }
 
@@ -90,8 +141,8 @@ fn put_place(t: &[u32; 1684], p: usize)
     requires { ⌜ Held (now t) ⌝ }
 {
     if p < look::places(t) {
-        say(b"; place ", p);
-        say(b" of ", look::kind_of(t, p));
+        say(PLACE, p);
+        say(OF, look::kind_of(t, p));
     }
 }
 
@@ -102,9 +153,9 @@ fn put_arc(t: &[u32; 1684], a: usize, k: usize)
 {
     if k < look::kinds(t) {
         if look::takes_kind(t, a, k) {
-            say(b", kind ", k);
-            say(b" from ", look::input(t, a, k));
-            say(b" to ", look::output(t, a, k));
+            say(ARC, k);
+            say(FROM, look::input(t, a, k));
+            say(TO, look::output(t, a, k));
         }
     }
 }
@@ -113,8 +164,8 @@ fn put_act(t: &[u32; 1684], a: usize)
     requires { ⌜ Held (now t) ⌝ }
 {
     if a < look::acts(t) {
-        say(b"; activity ", a);
-        say(b" of ", look::arcs(t, a));
+        say(ACT, a);
+        say(OF, look::arcs(t, a));
         let mut k = 0;
         while k < 8 {
             put_arc(t, a, k);
@@ -153,32 +204,26 @@ fn put_all(t: &[u32; 1684], what: u8, n: usize, whole: bool)
     }
 }
 
+fn put_sizes(t: &[u32; 1684])
+    requires { ⌜ Held (now t) ⌝ }
+{
+    say(KINDS, look::kinds(t));
+    say(PLACES, look::places(t));
+    say(ACTS, look::acts(t));
+    phrase(ALL);
+}
+
 // The net that the words hold: its sizes, and each kind, place and activity, or only the last of each.
 fn put_net(t: &[u32; 1684], whole: bool)
     requires { ⌜ Held (now t) ⌝ }
 {
-    let kinds = look::kinds(t);
-    let places = look::places(t);
-    let acts = look::acts(t);
-    say(b", ", kinds);
-    say(b" kinds, ", places);
-    say(b" places, ", acts);
-    text(b" activities");
-    put_all(t, 0, kinds, whole);
-    put_all(t, 1, places, whole);
-    put_all(t, 2, acts, whole);
-    text(b"\n");
+    put_sizes(t);
+    put_all(t, 0, look::kinds(t), whole);
+    put_all(t, 1, look::places(t), whole);
+    put_all(t, 2, look::acts(t), whole);
 }
 
-fn put_words(t: &[u32; 1684]) {
-    if filled(t) {
-        text(b", unchanged\n");
-    } else {
-        text(b", CHANGED\n");
-    }
-}
-
-// Loads the table s and writes its answer.
+// Loads the table s, and writes the answer and what the words hold then.
 pub fn load(s: &[u8], whole: bool) {
     let mut t = [0u32; 1684];
     fill(&mut t);
@@ -188,4 +233,10 @@ pub fn load(s: &[u8], whole: bool) {
         LoadAnswer::Taken => put_net(&t, whole),
         _ => put_words(&t),
     }
+}
+
+// A line of the case file that cannot be read.
+pub fn put_bad(s: &[u8], at: usize) {
+    phrase(BAD);
+    put_part(s, at, after(s, at, b'\n'));
 }

@@ -1,12 +1,13 @@
 -- The lines up to byte `at` are read. Assumes nothing.
-use Prim.Native.Nat.{_≤_, _-_}
+use Prim.Native.Nat.{_-_}
+use native.Mathlib.Omega.{arith}
 use lib.ListN.{length}
 use borrow.Author.Needs.{needs}
 use Rattle.net_test.proofs.lines.Statement.{statement}
 use Rattle.net_test.proofs.lines.Tie as tie
 
 abbrev Inv-loop : tie.InvT-loop
-Inv-loop s m₀ at₀ m at = at ≤ length s
+Inv-loop s m₀ at₀ m at = Unit
 
 abbrev μ-loop : tie.MeasureT-loop
 μ-loop s m₀ at₀ m at = length s - at
@@ -14,50 +15,22 @@ abbrev μ-loop : tie.MeasureT-loop
 loop-holds : tie.Need-loop-holds Inv-loop μ-loop
 loop-holds c = search needs
 
-find-requires : tie.Need-find-requires Inv-loop μ-loop
-find-requires c κs = search needs
-
-sub-line : tie.Need-sub-line Inv-loop μ-loop
-sub-line c = search needs
-
-part-line-start : tie.Need-part-line-start Inv-loop μ-loop
-part-line-start c = search needs
-
-part-line-end : tie.Need-part-line-end Inv-loop μ-loop
-part-line-end c = search needs
-
 line-requires : tie.Need-line-requires Inv-loop μ-loop
 line-requires c κs = search needs
 
-returns : tie.Need-returns Inv-loop μ-loop
-returns c = search needs
-
-add-at : tie.Need-add-at Inv-loop μ-loop
-add-at c = search needs
+after-requires : tie.Need-after-requires Inv-loop μ-loop
+after-requires c κs = search needs
 
 loop-less : tie.Need-loop-less Inv-loop μ-loop
-loop-less c = search needs
+loop-less c = omega (arith, c .after .ensures .1 (omega arith))
 
 loop-again : tie.Need-loop-again Inv-loop μ-loop
 loop-again c = search needs
 
-returns-2 : tie.Need-returns-2 Inv-loop μ-loop
-returns-2 c = search needs
+returns : tie.Need-returns Inv-loop μ-loop
+returns c = search needs
 
 pub lines-spec : {M : Type 1} → statement M
 lines-spec =
     tie.close
-    (tie.spec
-    Inv-loop
-    μ-loop
-    loop-holds
-    find-requires
-    sub-line
-    part-line-start
-    part-line-end
-    line-requires
-    returns
-    add-at
-    loop-less
-    loop-again
-    returns-2)
+    (tie.spec Inv-loop μ-loop loop-holds line-requires after-requires loop-less loop-again returns)

@@ -13,14 +13,8 @@ abbrev μ-loop : tie.MeasureT-loop
 acts-requires : tie.Need-acts-requires Inv-loop μ-loop
 acts-requires c κs = search needs
 
-slice-aggregate-say : tie.Need-slice-aggregate-say Inv-loop μ-loop
-slice-aggregate-say c = search needs
-
 say-requires : tie.Need-say-requires Inv-loop μ-loop
 say-requires c κs = search needs
-
-slice-aggregate-say-2 : tie.Need-slice-aggregate-say-2 Inv-loop μ-loop
-slice-aggregate-say-2 c = search needs
 
 arcs-requires : tie.Need-arcs-requires Inv-loop μ-loop
 arcs-requires c κs = search needs
@@ -56,9 +50,7 @@ put-act-spec =
     Inv-loop
     μ-loop
     acts-requires
-    slice-aggregate-say
     say-requires
-    slice-aggregate-say-2
     arcs-requires
     say-requires-2
     loop-holds

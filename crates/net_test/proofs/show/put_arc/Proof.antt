@@ -10,26 +10,17 @@ kinds-requires c κs = search needs
 takes-kind-requires : tie.Need-takes-kind-requires
 takes-kind-requires c κs = search needs
 
-slice-aggregate-say : tie.Need-slice-aggregate-say
-slice-aggregate-say c = search needs
-
 say-requires : tie.Need-say-requires
 say-requires c κs = search needs
 
-slice-aggregate-say-2 : tie.Need-slice-aggregate-say-2
-slice-aggregate-say-2 c = search needs
-
 input-requires : tie.Need-input-requires
-input-requires c κs = (search needs, (search needs, search needs, sym (c .before .before .before .before .takes-kind .ensures) ∙ c .before .before .before .if2 .taken))
+input-requires c κs = (search needs, (search needs, search needs, sym (c .before .before .takes-kind .ensures) ∙ c .before .if2 .taken))
 
 say-requires-2 : tie.Need-say-requires-2
 say-requires-2 c κs = search needs
 
-slice-aggregate-say-3 : tie.Need-slice-aggregate-say-3
-slice-aggregate-say-3 c = search needs
-
 output-requires : tie.Need-output-requires
-output-requires c κs = (search needs, (search needs, search needs, sym (c .before .before .before .before .before .before .before .takes-kind .ensures) ∙ c .before .before .before .before .before .before .if2 .taken))
+output-requires c κs = (search needs, (search needs, search needs, sym (c .before .before .before .before .takes-kind .ensures) ∙ c .before .before .before .if2 .taken))
 
 say-requires-3 : tie.Need-say-requires-3
 say-requires-3 c κs = search needs
@@ -49,12 +40,9 @@ put-arc-spec =
     (tie.spec
     kinds-requires
     takes-kind-requires
-    slice-aggregate-say
     say-requires
-    slice-aggregate-say-2
     input-requires
     say-requires-2
-    slice-aggregate-say-3
     output-requires
     say-requires-3
     returns

@@ -1,44 +1,29 @@
--- The pairs up to `i` are put. Assumes nothing.
+-- At most 40 pairs are put. Assumes nothing.
 use Prim.Native.Nat.{_≤_, _-_}
 use borrow.Author.Needs.{needs}
 use Rattle.net_test.proofs.table.edit.Statement.{statement}
 use Rattle.net_test.proofs.table.edit.Tie as tie
 
 abbrev Inv-loop : tie.InvT-loop
-Inv-loop b₀ v from n i₀ b i = i ≤ 40
+Inv-loop b₀ s from at₀ n₀ b at n = n ≤ 40
 
 abbrev μ-loop : tie.MeasureT-loop
-μ-loop b₀ v from n i₀ b i = 40 - i
+μ-loop b₀ s from at₀ n₀ b at n = 40 - n
 
 loop-holds : tie.Need-loop-holds Inv-loop μ-loop
 loop-holds c = search needs
 
-add-loop : tie.Need-add-loop Inv-loop μ-loop
-add-loop c = search needs
+put-pair-requires : tie.Need-put-pair-requires Inv-loop μ-loop
+put-pair-requires c κs = search needs
 
-mul-put : tie.Need-mul-put Inv-loop μ-loop
-mul-put c = search needs
-
-element-copy-out-put : tie.Need-element-copy-out-put Inv-loop μ-loop
-element-copy-out-put c = search needs
-
-add-put : tie.Need-add-put Inv-loop μ-loop
-add-put c = search needs
-
-mul-put-2 : tie.Need-mul-put-2 Inv-loop μ-loop
-mul-put-2 c = search needs
-
-element-copy-out-put-2 : tie.Need-element-copy-out-put-2 Inv-loop μ-loop
-element-copy-out-put-2 c = search needs
-
-put-requires : tie.Need-put-requires Inv-loop μ-loop
-put-requires c κs = search needs
+byte-requires : tie.Need-byte-requires Inv-loop μ-loop
+byte-requires c κs = search needs
 
 returns : tie.Need-returns Inv-loop μ-loop
 returns c = search needs
 
-add-i : tie.Need-add-i Inv-loop μ-loop
-add-i c = search needs
+add-n : tie.Need-add-n Inv-loop μ-loop
+add-n c = search needs
 
 loop-less : tie.Need-loop-less Inv-loop μ-loop
 loop-less c = search needs
@@ -56,15 +41,10 @@ edit-spec =
     Inv-loop
     μ-loop
     loop-holds
-    add-loop
-    mul-put
-    element-copy-out-put
-    add-put
-    mul-put-2
-    element-copy-out-put-2
-    put-requires
+    put-pair-requires
+    byte-requires
     returns
-    add-i
+    add-n
     loop-less
     loop-again
     returns-2)

@@ -5,16 +5,16 @@ use Rattle.net_test.proofs.table.fill.Statement.{statement}
 use Rattle.net_test.proofs.table.fill.Tie as tie
 
 abbrev Inv-loop : tie.InvT-loop
-Inv-loop b₀ kinds places acts arcs links i₀ b i = i ≤ 1200
+Inv-loop b₀ z i₀ b i = i ≤ 1200
 
 abbrev μ-loop : tie.MeasureT-loop
-μ-loop b₀ kinds places acts arcs links i₀ b i = 1200 - i
+μ-loop b₀ z i₀ b i = 1200 - i
 
 loop-holds : tie.Need-loop-holds Inv-loop μ-loop
 loop-holds c = search needs
 
-number-requires : tie.Need-number-requires Inv-loop μ-loop
-number-requires c κs = search needs
+value-requires : tie.Need-value-requires Inv-loop μ-loop
+value-requires c κs = search needs
 
 put-requires : tie.Need-put-requires Inv-loop μ-loop
 put-requires c κs = search needs
@@ -38,7 +38,7 @@ fill-spec =
     Inv-loop
     μ-loop
     loop-holds
-    number-requires
+    value-requires
     put-requires
     add-i
     loop-less

@@ -2,11 +2,11 @@
 use Prim.Native.Nat.{_≤_, _-_}
 use lib.ListN.{length}
 use borrow.Author.Needs.{needs}
-use Rattle.net_test.proofs.read.find.Statement.{statement}
-use Rattle.net_test.proofs.read.find.Tie as tie
+use Rattle.net_test.proofs.read.after.Statement.{statement}
+use Rattle.net_test.proofs.read.after.Tie as tie
 
 abbrev Inv-loop : tie.InvT-loop
-Inv-loop s at b i₀ i = (at ≤ i) × (i ≤ length s)
+Inv-loop s at b i₀ i = at ≤ i
 
 abbrev μ-loop : tie.MeasureT-loop
 μ-loop s at b i₀ i = length s - i
@@ -16,6 +16,9 @@ loop-holds c = search needs
 
 shared-slice-read-if1 : tie.Need-shared-slice-read-if1 Inv-loop μ-loop
 shared-slice-read-if1 c = search needs
+
+add-result : tie.Need-add-result Inv-loop μ-loop
+add-result c = search needs
 
 returns : tie.Need-returns Inv-loop μ-loop
 returns c = search needs
@@ -32,14 +35,15 @@ loop-again c = search needs
 returns-2 : tie.Need-returns-2 Inv-loop μ-loop
 returns-2 c = search needs
 
-pub find-spec : {M : Type 1} → statement M
-find-spec =
+pub after-spec : {M : Type 1} → statement M
+after-spec =
     tie.close
     (tie.spec
     Inv-loop
     μ-loop
     loop-holds
     shared-slice-read-if1
+    add-result
     returns
     add-i
     loop-less
