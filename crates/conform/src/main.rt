@@ -1,5 +1,6 @@
 // The program: it reads the route table `route.tab` and a trail from standard input, and writes the report (the sheet), or the first
-// refusal, to standard output. What it reads and writes is tested; proved is that it is safe and ends on every input.
+// refusal, to standard output. `specs/Program.antt` says which. That it is safe and ends on every input, and what its parts do, is
+// proved; that it prints that text is tested.
 
 use following::follow;
 use input::read_file;
