@@ -117,6 +117,9 @@ fn value(i: u32, z: Sizes) -> u32
     if i < c {
         return z.arcs;
     }
+    if 2 * product(z.acts, z.arcs) <= i - c {
+        return 0;
+    }
     if z.chain {
         link(i - c, z.acts)
     } else {
