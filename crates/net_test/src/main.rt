@@ -18,7 +18,7 @@ mod read;
 mod show;
 mod table;
 
-// What stands behind the colon and a blank.
+// Writes what stands behind the colon and a blank.
 fn put_label(s: &[u8], at: usize) {
     let colon = after(s, at, b':');
     let end = after(s, at, b'\n');
@@ -27,7 +27,7 @@ fn put_label(s: &[u8], at: usize) {
     }
 }
 
-// Loads the first bytes of b and writes the line. False where there are not so many.
+// Loads the first bytes of b, as many as `size` says, and writes the line. False where there are not so many.
 fn attempt(b: &[u8; 4800], size: Found, s: &[u8], at: usize, whole: bool) -> bool {
     if !size.there {
         return false;
@@ -43,7 +43,7 @@ fn attempt(b: &[u8; 4800], size: Found, s: &[u8], at: usize, whole: bool) -> boo
     true
 }
 
-// The line from byte `at` on. One with a t changes table M itself. False where it is no case.
+// The line from byte `at` on, whose first letter this is. A t changes table M itself. False where the line cannot be read.
 fn case(m: &mut [u8; 4800], letter: u8, s: &[u8], at: usize) -> bool {
     if letter == b't' {
         return edit(m, s, at);
@@ -56,6 +56,7 @@ fn case(m: &mut [u8; 4800], letter: u8, s: &[u8], at: usize) -> bool {
     attempt(&b, size, s, at, letter == b'w')
 }
 
+// The line from byte `at` on: a comment, an empty line or a case.
 fn line(m: &mut [u8; 4800], s: &[u8], at: usize) {
     let letter = byte(s, at);
     if letter == b'#' {

@@ -10,78 +10,80 @@ ghost use Prim.Native.Nat.{_<_};
 ghost use lib.ListN.{length};
 ghost use Rattle.net.specs.Held.{Held, netIn};
 
-// Where the phrases begin that `phrase` writes.
+// The phrases that `phrase` writes, by their number. The names of the answers follow.
 const KIND: usize = 0;
 
-const FROM: usize = 8;
+const FROM: usize = 1;
 
-const TO: usize = 15;
+const TO: usize = 2;
 
-const PLACE: usize = 20;
+const PLACE: usize = 3;
 
-const OF: usize = 29;
+const OF: usize = 4;
 
-const ACT: usize = 34;
+const ACT: usize = 5;
 
-const ARC: usize = 46;
+const ARC: usize = 6;
 
-const KINDS: usize = 54;
+const KINDS: usize = 7;
 
-const PLACES: usize = 57;
+const PLACES: usize = 8;
 
-const ACTS: usize = 66;
+const ACTS: usize = 9;
 
-const ALL: usize = 76;
+const ALL: usize = 10;
 
-const UNCHANGED: usize = 88;
+const UNCHANGED: usize = 11;
 
-const CHANGED: usize = 100;
+const CHANGED: usize = 12;
 
-const BAD: usize = 110;
+const BAD: usize = 13;
 
-pub const END: usize = 121;
+pub const END: usize = 14;
 
-pub fn text(s: &[u8]) {
-    io::write_all(libc::STDOUT_FILENO, s);
-}
-
-fn put_phrase(s: &[u8], at: usize) {
+// Part n of s, whose parts end in a bar.
+fn put_phrase(s: &[u8], n: usize) {
+    let mut at = 0;
+    let mut i = 0;
+    while i < n {
+        at = after(s, at, b'|');
+        i += 1;
+    }
     let end = after(s, at, b'|');
     if at < end {
         put_part(s, at, end - 1);
     }
 }
 
-// The phrase that begins at byte `at` of all phrases.
-pub fn phrase(at: usize) {
+pub fn phrase(n: usize) {
     put_phrase(
-        b"; kind | from | to |; place | of |; activity |, kind |, | kinds, | places, | activities|, unchanged|\
-        , CHANGED|bad case: |\n|\
-        : Taken |: Length |: Layout |: Size |: PlaceKind |: Ends |: Arcs |: ArcPlaces |: TwoOfKind |\
-        : Unreached |",
-        at,
+        b"; kind | from | to |; place | of |; activity |, kind |\
+        , | kinds, | places, | activities|, unchanged|, CHANGED|bad case: |\n|\
+        : Taken |: Length |: Layout |: Size |: PlaceKind |\
+        : Ends |: Arcs |: ArcPlaces |: TwoOfKind |: Unreached |",
+        n,
     );
 }
 
 // A phrase and a number.
-fn say(at: usize, n: usize) {
-    phrase(at);
-    io::print_decimal(libc::STDOUT_FILENO, n as u64);
+fn say(n: usize, x: usize) {
+    phrase(n);
+    io::print_decimal(libc::STDOUT_FILENO, x as u64);
 }
 
-// The phrase for an answer.
+// The phrase that names an answer.
 fn name(a: LoadAnswer) -> usize {
     match a {
-        LoadAnswer::Taken => 123,
-        LoadAnswer::Length => 132,
-        LoadAnswer::Layout => 142,
-        LoadAnswer::Size => 152,
-        LoadAnswer::PlaceKind => 160,
-        LoadAnswer::Ends => 173,
-        LoadAnswer::Arcs => 181,
-        LoadAnswer::ArcPlaces => 189,
-        LoadAnswer::TwoOfKind => 202,
-        LoadAnswer::Unreached => 215,
+        LoadAnswer::Taken => 15,
+        LoadAnswer::Length => 16,
+        LoadAnswer::Layout => 17,
+        LoadAnswer::Size => 18,
+        LoadAnswer::PlaceKind => 19,
+        LoadAnswer::Ends => 20,
+        LoadAnswer::Arcs => 21,
+        LoadAnswer::ArcPlaces => 22,
+        LoadAnswer::TwoOfKind => 23,
+        LoadAnswer::Unreached => 24,
     }
 }
 

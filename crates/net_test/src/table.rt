@@ -40,7 +40,7 @@ fn put_pair(b: &mut [u8; 4800], s: &[u8], at: usize) -> Found {
     nothing(s.len())
 }
 
-// Puts the pairs from byte `from` on. False where anything but pairs stands before the colon.
+// Puts the pairs from byte `from` on, at most 39. False where anything else stands before the colon.
 pub fn edit(b: &mut [u8; 4800], s: &[u8], from: usize) -> bool {
     let mut at = from;
     let mut n: usize = 0;
@@ -98,7 +98,7 @@ fn link(x: u32, n: u32) -> u32 {
     if x / 2 < n { n - 1 - x / 2 + x % 2 } else { 0 }
 }
 
-// Number i of a table, or of what goes on behind it as its arcs do. The places are of the kinds in turn.
+// Number i of a table whose places are of the kinds in turn; 0 behind it.
 fn value(i: u32, z: Sizes) -> u32
     requires { ⌜ (z .kinds ≤ 999) × (z .places ≤ 999) × (z .acts ≤ 999) × (z .arcs ≤ 999) ⌝ }
 {
@@ -116,6 +116,9 @@ fn value(i: u32, z: Sizes) -> u32
     let c = a + z.acts;
     if i < c {
         return z.arcs;
+    }
+    if 2 * product(z.acts, z.arcs) <= i - c {
+        return 0;
     }
     if z.chain {
         link(i - c, z.acts)
@@ -135,7 +138,7 @@ fn fill(b: &mut [u8; 4800], z: Sizes)
 }
 
 fn sized(b: &mut [u8; 4800], kinds: u32, places: u32, acts: u32, arcs: u32) -> bool {
-    if 999 < wide(kinds) + wide(places) + wide(acts) + wide(arcs) {
+    if kinds / 1000 + places / 1000 + acts / 1000 + arcs / 1000 != 0 {
         return false;
     }
     fill(
