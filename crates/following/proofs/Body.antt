@@ -134,8 +134,8 @@ module _ (N : Net) (L : Loaded N) (ks f : List ℕ) (body : ℕ) where
   -- by what is found at a position
   from-here : (from at n : ℕ) (d : Found) → readFrom N ks n f from body at .found ≡ d → (es : List plain.Event) (r : Followed) (trail : List ℕ)
       → (readFrom N ks n f from body at .found ≡ found.Event → From (from + 8 + 4 * readFrom N ks n f from body at .event .count) (readFrom N ks n f from body at .next .at) (n + 1) es (r .code))
-      → From from at n (byFound d (eventIn (readFrom N ks n f from body at .event) ∷ es) (λ (c : ℕ). []))
-      (byFound {A = Followed} d r (λ (c : ℕ). record { trail = trail; accepted = n; code = c }) .code)
+      → From from at n (byFound d (λ (u : Unit). eventIn (readFrom N ks n f from body at .event) ∷ es) (λ (c : ℕ). []))
+      (byFound {A = Followed} d (λ (u : Unit). r) (λ (c : ℕ). record { trail = trail; accepted = n; code = c }) .code)
   from-here from at n found.Event p es r trail more = one-more from at n p es (r .code) (more p)
   from-here from at n found.End p es r trail more = stopped from at n found.End p (λ z. tells N ks n f from body at found.End p)
   from-here from at n (found.Refused c) p es r trail more = stopped from at n (found.Refused c) p (λ z. absurd (tells N ks n f from body at (found.Refused c) p z))

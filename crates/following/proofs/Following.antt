@@ -94,8 +94,8 @@ module _ (t rec register : List ℕ) (body : ℕ) (window : List ℕ) (s : Spot)
   by-answer : Stepped t register (length window) s (trailAfter rec answered) (outcomeAfter s answered)
   by-answer = go (answered .found) refl
     where
-      go : (d : Found) → answered .found ≡ d → Stepped t register (length window) s (byFound d (askBytes rec (event (eventIn (answered .event)))) (λ (c : ℕ). rec))
-          (byFound d (behind s answered) (stops s))
+      go : (d : Found) → answered .found ≡ d → Stepped t register (length window) s (byFound d (λ (u : Unit). askBytes rec (event (eventIn (answered .event)))) (λ (c : ℕ). rec))
+          (byFound d (λ (u : Unit). behind s answered) (stops s))
       go found.Event e =
           let h = read-handed t rec register (s .accepted) F window (s .from) body (s .at) answered refl e in
           record { follows = event-follows t rec register (s .accepted) F (eventIn (answered .event)) (h .taken); inside = h .there; more = λ o. refl }

@@ -81,9 +81,9 @@ module _ (N : Net) (ks : List ℕ) (body : ℕ) where
   -- all events at a spot are the one there and all behind it
   module _ (f : List ℕ) (i : ℕ) (trail : List ℕ) (s : Spot) (few : s .accepted ≤ 1000000) where
     by-found : (d : Found) (e : Event) (next : Cursor)
-        → byFound d (followed N ks f body (1000001 - (s .accepted + 1)) (askBytes trail (event (eventIn e))) (i + s .from + 8 + 4 * e .count) (next .at) (s .accepted + 1))
+        → byFound d (λ (u : Unit). followed N ks f body (1000001 - (s .accepted + 1)) (askBytes trail (event (eventIn e))) (i + s .from + 8 + 4 * e .count) (next .at) (s .accepted + 1))
         (λ (c : ℕ). record { trail = trail; accepted = s .accepted; code = c })
-        ≡ goesOn N ks f body i (byFound d (askBytes trail (event (eventIn e))) (λ (c : ℕ). trail)) (byFound d (behind s (record { found = d; event = e; next = next })) (stops s))
+        ≡ goesOn N ks f body i (byFound d (λ (u : Unit). askBytes trail (event (eventIn e))) (λ (c : ℕ). trail)) (byFound d (λ (u : Unit). behind s (record { found = d; event = e; next = next })) (stops s))
     unfolding final goesOn
     by-found found.Event e next = ap (λ (k : ℕ). followed N ks f body (1000001 - (s .accepted + 1)) (askBytes trail (event (eventIn e))) k (next .at) (s .accepted + 1)) (omega arith)
     by-found found.End e next = refl

@@ -49,8 +49,8 @@ module _ (table : List ℕ) (good : loadCode table ≡ 0) where
 
       ran-by : (d : Found) → here .found ≡ d → (es : List Event) (r : List ℕ → Followed)
           → (here .found ≡ found.Event → Ran (accept p (event (eventIn (here .event)))) es (r (encode table (stateOf N (accept p (event (eventIn (here .event))))))))
-          → Ran p (byFound d (eventIn (here .event) ∷ es) (λ (c : ℕ). []))
-          (byFound d (r (askBytes (encode table (stateOf N p)) (event (eventIn (here .event))))) (λ (c : ℕ). record { trail = encode table (stateOf N p); accepted = n; code = c }))
+          → Ran p (byFound d (λ (u : Unit). eventIn (here .event) ∷ es) (λ (c : ℕ). []))
+          (byFound d (λ (u : Unit). r (askBytes (encode table (stateOf N p)) (event (eventIn (here .event))))) (λ (c : ℕ). record { trail = encode table (stateOf N p); accepted = n; code = c }))
       ran-by found.Event q es r more =
           let e : Event = eventIn (here .event) in
           let z = accepts q in

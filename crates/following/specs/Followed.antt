@@ -26,9 +26,9 @@ pub record Followed : Type 0 where
 unfoldable pub closedAfter : Followed → List ℕ
 closedAfter d = pick (eqb (d .code) 0) (askBytes (d .trail) close) (d .trail)
 
--- by what is found: an event, or the end (0) or a refusal with its number
-abbrev pub byFound {ℓ} : {A : Type ℓ} → Found → A → (ℕ → A) → A
-byFound found.Event e stop = e
+-- by what is found: an event, of which more is computed only then; or the end (0) or a refusal with its number
+abbrev pub byFound {ℓ} : {A : Type ℓ} → Found → (Unit {0} → A) → (ℕ → A) → A
+byFound found.Event e stop = e (tt {0})
 byFound found.End e stop = stop 0
 byFound (found.Refused c) e stop = stop c
 
@@ -49,10 +49,10 @@ leftBy trail r = record { trail = trail; accepted = r .spot .accepted; code = r 
 
 -- what an answer of the reader leaves of the trail, and the outcome
 abbrev pub trailAfter : List ℕ → Answer → List ℕ
-trailAfter trail a = byFound (a .found) (askBytes trail (event (eventIn (a .event)))) (λ (c : ℕ). trail)
+trailAfter trail a = byFound (a .found) (λ (u : Unit). askBytes trail (event (eventIn (a .event)))) (λ (c : ℕ). trail)
 
 abbrev pub outcomeAfter : Spot → Answer → Outcome
-outcomeAfter s a = byFound (a .found) (behind s a) (stops s)
+outcomeAfter s a = byFound (a .found) (λ (u : Unit). behind s a) (stops s)
 
 -- the net, the kind of each object, the bytes b with which the file ends, and the length of the events body
 module _ (N : Net) (ks b : List ℕ) (body : ℕ) where
@@ -69,7 +69,7 @@ module _ (N : Net) (ks b : List ℕ) (body : ℕ) where
   followed (suc turns) trail from at n =
       let a : Answer = readFrom N ks n b from body at in
       byFound (a .found)
-      (followed turns (askBytes trail (event (eventIn (a .event)))) (from + 8 + 4 * a .event .count) (a .next .at) (n + 1))
+      (λ (u : Unit). followed turns (askBytes trail (event (eventIn (a .event)))) (from + 8 + 4 * a .event .count) (a .next .at) (n + 1))
       (λ (c : ℕ). record { trail = trail; accepted = n; code = c })
 
   -- the events that are handed out
@@ -78,7 +78,7 @@ module _ (N : Net) (ks b : List ℕ) (body : ℕ) where
   handedOut (suc turns) from at n =
       let a : Answer = readFrom N ks n b from body at in
       byFound (a .found)
-      (eventIn (a .event) ∷ handedOut turns (from + 8 + 4 * a .event .count) (a .next .at) (n + 1))
+      (λ (u : Unit). eventIn (a .event) ∷ handedOut turns (from + 8 + 4 * a .event .count) (a .next .at) (n + 1))
       (λ (c : ℕ). [])
 
   -- all events: 22 ends them behind 1,000,000, so that there are enough turns
