@@ -1,8 +1,8 @@
-// The report (the sheet), and the line of a refusal, on standard output. Above `report`; the program's crates use it.
+// The report (the sheet), and the line of a refusal, on standard output. Above `composing`; the program's crates use it.
 
+use composing::line_count;
+use composing::put_lines;
 use lines::size;
-use report::whole::line_count;
-use report::whole::put_lines;
 ghost use Rattle.replay.specs.Ready.{Ready};
 
 // The line of a refusal, with the events accepted before it.
@@ -12,7 +12,7 @@ pub fn refuse(code: u32, events: u32) {
     io::write_all(1, &out[..n]);
 }
 
-// The whole report, in parts of as many lines as fit the buffer: that they are the report is `parts-are` of `report`.
+// The whole report, in parts of as many lines as fit the buffer: that they are the report is `parts-are` of `composing`.
 pub fn print(rec: &[u8], t: &[u32; 1684])
     requires { ⌜ Ready (now t) (now rec) ⌝ }
 {

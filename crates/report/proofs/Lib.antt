@@ -1,7 +1,4 @@
 pub mod TrailLaws
-mod PairIndex
-mod LineLaws
-pub mod PutLaws
-pub mod SizeLaws
+pub mod PairIndex
 pub mod ReportLaws
 pub mod RowsHold

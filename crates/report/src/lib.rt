@@ -1,5 +1,4 @@
-// The report (the sheet) of a trail in lent bytes: its lines one by one, and all of them one behind the other.
-// Above `counts`, which reads the numbers, and `lines`, which writes them.
+// The lines of the report (the sheet) of a trail in lent bytes, and what the whole report is.
+// Above `counts`, which reads the numbers, and `lines`, which writes them. `composing` puts the whole report together.
 
 pub mod trail;
-pub mod whole;

@@ -3,9 +3,9 @@ use Prim.Native.Nat.{_-_, _≤_}
 use mathlib.Core.Path.{_≡_, ap, sym, _∙_}
 use native.Mathlib.Omega.{arith}
 use lib.ListN.{length, length-take}
-use Rattle.report.specs.Report.{linesOn, linesIn}
-use Rattle.report.proofs.PutLaws.{part-fits}
-use Rattle.report.proofs.SizeLaws.{some-fits}
+use Rattle.composing.specs.Parts.{linesOn, linesIn}
+use Rattle.composing.proofs.PutLaws.{part-fits}
+use Rattle.composing.proofs.SizeLaws.{some-fits}
 use borrow.Author.Needs.{needs}
 use Rattle.printing.proofs.print.Statement.{statement}
 use Rattle.printing.proofs.print.Tie as tie

@@ -1,9 +1,10 @@
-// The whole report: its lines one behind the other, as many as fit a lent part.
+// The whole report (the sheet): its lines one behind the other, as many as fit a lent part.
+// Above `report`, which writes a line of a trail; `printing` uses it.
 
-use crate::trail::act_line;
-use crate::trail::jump_line;
-use crate::trail::place_line;
-use crate::trail::trail_line;
+use report::trail::act_line;
+use report::trail::jump_line;
+use report::trail::place_line;
+use report::trail::trail_line;
 use lines::LineAnswer;
 ghost use mathlib.Core.Path.{_≡_};
 ghost use mathlib.Core.List.{[]};
@@ -11,7 +12,7 @@ ghost use Prim.Native.Nat.{_<_};
 ghost use Rattle.net.specs.Held.{netIn, Held};
 ghost use Rattle.replay.specs.Ready.{Ready};
 ghost use Rattle.lines.specs.Answer.{Writes};
-ghost use Rattle.report.specs.Report.{linesOn, linesIn, lineAt, Puts};
+ghost use Rattle.composing.specs.Parts.{linesOn, linesIn, lineAt, Puts};
 
 // Lines that were put into a lent part: the number of the line behind them, and how many bytes they take.
 pub struct Part {

@@ -4,10 +4,10 @@ use mathlib.Core.Path.{ap}
 use native.Mathlib.Nat.{mul-le-mul}
 use native.Mathlib.Omega.{arith}
 use Rattle.net.proofs.HeldLaws.{held-loaded}
-use Rattle.report.specs.Report.{linesOn}
+use Rattle.composing.specs.Parts.{linesOn}
 use borrow.Author.Needs.{needs}
-use Rattle.report.proofs.whole.line_count.Statement.{statement}
-use Rattle.report.proofs.whole.line_count.Tie as tie
+use Rattle.composing.proofs.line_count.Statement.{statement}
+use Rattle.composing.proofs.line_count.Tie as tie
 
 places-few : (c : tie.After-places) → c .places .result ≤ 64
 places-few c = omega (arith, held-loaded (c .before .args .t .now) (c .before .pre) .places-le, c .places .ensures)

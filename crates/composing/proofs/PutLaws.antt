@@ -12,7 +12,7 @@ use Rattle.words.specs.Lists.{pick, over}
 use Rattle.words.proofs.Over.{overAt, part, part-back, from-start, behind, length-overAt}
 use Rattle.lines.specs.Answer.{codeOf, sizeOf, lineCode, Writes}
 use Rattle.lines.specs.declared.LineAnswer.{LineAnswer}
-use Rattle.report.specs.Report.{linesIn, lineAt, linesFrom, fitting, fits, partFrom, Puts}
+use Rattle.composing.specs.Parts.{linesIn, lineAt, linesFrom, fitting, fits, partFrom, Puts}
 
 -- a line that was written, and one that was not
 module _ {line lent : List ℕ} {r : LineAnswer} {left : List ℕ} (w : Writes [] line lent r left) where

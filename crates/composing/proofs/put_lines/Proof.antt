@@ -12,11 +12,11 @@ use Rattle.lines.specs.Answer.{codeOf, sizeOf}
 use Rattle.lines.specs.declared.LineAnswer.{LineAnswer}
 use Rattle.lines.specs.declared.LineAnswer.the-variants.{Written, UnknownPlace, UnknownActivity, NoRoom}
 use Rattle.lines.proofs.LineAnswer.{the-type}
-use Rattle.report.specs.Report.{linesOn, linesIn}
-use Rattle.report.proofs.PutLaws.{Putting, putting, put-line, put-no-line, put-end}
+use Rattle.composing.specs.Parts.{linesOn, linesIn}
+use Rattle.composing.proofs.PutLaws.{Putting, putting, put-line, put-no-line, put-end}
 use borrow.Author.Needs.{needs}
-use Rattle.report.proofs.whole.put_lines.Statement.{statement}
-use Rattle.report.proofs.whole.put_lines.Tie as tie
+use Rattle.composing.proofs.put_lines.Statement.{statement}
+use Rattle.composing.proofs.put_lines.Tie as tie
 
 abbrev Inv-loop : tie.InvT-loop
 Inv-loop rec t from out₀ n i₀ at₀ out i at = (n ≡ linesIn rec) × Putting rec from out₀ i at out

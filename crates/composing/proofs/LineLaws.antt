@@ -15,8 +15,9 @@ use Rattle.counts.specs.Reads.{placeTests, actTests, pairTests}
 use Rattle.lines.specs.Answer.{lineCode, Writes}
 use Rattle.lines.specs.declared.LineAnswer.{LineAnswer}
 use Rattle.lines.proofs.LineLaws.{same-line}
 use Rattle.report.specs.TrailLines.{trailLineAt, placeLineAt, actLineAt}
-use Rattle.report.specs.Report.{pairLineAt, lineAt}
+use Rattle.report.specs.Report.{pairLineAt}
+use Rattle.composing.specs.Parts.{lineAt}
 
 module _ (b : List ℕ) where
   pub line-trail : (i : ℕ) → i ≡ 0 → trailLineAt b ≡ lineAt b i

@@ -6,13 +6,13 @@ use Rattle.net.specs.Net.{Net}
 use Rattle.replay.specs.Calls.{netAt}
 use Rattle.replay.proofs.RecordLaws.{ready-loaded}
 use Rattle.lines.proofs.LineLaws.{same-line}
 use Rattle.report.specs.TrailLines.{jumpLineAt}
-use Rattle.report.specs.Report.{linesOn}
+use Rattle.composing.specs.Parts.{linesOn}
 use Rattle.report.proofs.PairIndex.{some-place, row-lt, column-lt}
-use Rattle.report.proofs.LineLaws.{line-trail, line-place, line-act, line-pair, known-place, known-act, known-pair}
+use Rattle.composing.proofs.LineLaws.{line-trail, line-place, line-act, line-pair, known-place, known-act, known-pair}
 use borrow.Author.Needs.{needs}
-use Rattle.report.proofs.whole.line.Statement.{statement}
-use Rattle.report.proofs.whole.line.Tie as tie
+use Rattle.composing.proofs.line.Statement.{statement}
+use Rattle.composing.proofs.line.Tie as tie
 
 -- the numbers that were looked up are the trail's
 places-are : (c : tie.After-places) → c .places .result ≡ netAt (c .before .before .before .before .args .rec .now) .places

@@ -27,10 +27,10 @@ use Rattle.text.specs.declared.field.Field.{Field}
 use Rattle.text.specs.declared.field.Field.the-variants as field
 use Rattle.lines.specs.Lines.{fieldsText, lineOf}
 use Rattle.lines.proofs.LineLaws.{line-length}
 use Rattle.report.specs.TrailLines.{trailLineAt, placeLineAt, actLineAt, jumpLineAt}
-use Rattle.report.specs.Report.{linesOn, linesIn, lineAt, fits}
+use Rattle.composing.specs.Parts.{linesOn, linesIn, lineAt, fits}
 use Rattle.report.proofs.PairIndex.{row-lt, column-lt}
-use Rattle.report.proofs.PutLaws.{fits-more}
+use Rattle.composing.proofs.PutLaws.{fits-more}
 
 -- how long a field, a word and a line can be
 number-short : (n : ℕ) → n < 4294967296 → length (fieldText (field.Number n)) ≤ 21

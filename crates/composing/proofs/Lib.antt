@@ -1,0 +1,4 @@
+mod LineLaws
+pub mod PutLaws
+pub mod SizeLaws
+pub mod PartLaws
