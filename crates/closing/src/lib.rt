@@ -35,7 +35,7 @@ fn sink_objects(rec: &mut [u8], t: &[u32; 1684], lay: Layout)
     let mut jumps = 0u32;
     while o < lay.objects {
         let k = words::get_word(rec, lay.register + o) as usize;
-        let sink = net::look::sink(t, k);
+        let sink = look::sink(t, k);
         jumps += move_object(rec, lay, o, sink, sink as u32);
         o += 1;
     }

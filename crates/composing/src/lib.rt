@@ -1,11 +1,11 @@
 // The whole report (the sheet): its lines one behind the other, as many as fit a lent part.
 // Above `report`, which writes a line of a trail; `printing` uses it.
 
+use lines::LineAnswer;
 use report::trail::act_line;
 use report::trail::jump_line;
 use report::trail::place_line;
 use report::trail::trail_line;
-use lines::LineAnswer;
 ghost use mathlib.Core.Path.{_≡_};
 ghost use mathlib.Core.List.{[]};
 ghost use Prim.Native.Nat.{_<_};
@@ -26,8 +26,8 @@ pub fn line_count(t: &[u32; 1684]) -> u32
     requires { ⌜ Held (now t) ⌝ }
     ensures { λ r. ⌜ r ≡ linesOn (netIn (now (t .entry))) ⌝ }
 {
-    let places = net::look::places(t) as u32;
-    let acts = net::look::acts(t) as u32;
+    let places = look::places(t) as u32;
+    let acts = look::acts(t) as u32;
     1 + places + acts + places * places
 }
 
@@ -40,12 +40,12 @@ fn line(rec: &[u8], t: &[u32; 1684], i: u32, out: &mut [u8]) -> LineAnswer
     if i == 0 {
         return trail_line(rec, t, out);
     }
-    let places = net::look::places(t) as u32;
+    let places = look::places(t) as u32;
     let q = i - 1;
     if q < places {
         return place_line(rec, t, q, out);
     }
-    let acts = net::look::acts(t) as u32;
+    let acts = look::acts(t) as u32;
     let a = q - places;
     if a < acts {
         return act_line(rec, t, a, out);

@@ -128,7 +128,7 @@ fn moved(rec: &[u8], t: &[u32; 1684], a: usize) -> u32
     requires { ⌜ a < netIn (now t) .acts ⌝ }
     ensures { λ r. ⌜ (r ≡ storedMoved (netIn (now (t .entry))) (stateAt (now (rec .entry))) a) × (r ≤ 8000000) ⌝ }
 {
-    let n = net::look::arcs(t, a);
+    let n = look::arcs(t, a);
     fired(rec, t, a) * (n as u32)
 }
 
@@ -148,7 +148,7 @@ fn jumps_in(rec: &[u8], t: &[u32; 1684], q: usize) -> u32
     requires { ⌜ q < netIn (now t) .places ⌝ }
     ensures { λ r. ⌜ r ≡ storedJumpsIn (netIn (now (t .entry))) (stateAt (now (rec .entry))) q ⌝ }
 {
-    let n = net::look::places(t);
+    let n = look::places(t);
     let mut sum = 0u32;
     let mut x = 0;
     while x < n {
@@ -164,7 +164,7 @@ fn jumps_out(rec: &[u8], t: &[u32; 1684], q: usize) -> u32
     requires { ⌜ q < netIn (now t) .places ⌝ }
     ensures { λ r. ⌜ r ≡ storedJumpsOut (netIn (now (t .entry))) (stateAt (now (rec .entry))) q ⌝ }
 {
-    let n = net::look::places(t);
+    let n = look::places(t);
     let mut sum = 0u32;
     let mut y = 0;
     while y < n {
@@ -180,11 +180,11 @@ fn inputs_on(t: &[u32; 1684], q: usize, a: usize) -> u32
     requires { ⌜ (q < netIn (now t) .places) × (a < netIn (now t) .acts) ⌝ }
     ensures { λ r. ⌜ (r ≡ inputs (netIn (now (t .entry))) q a) × (r ≤ 1) ⌝ }
 {
-    let k = net::look::kind_of(t, q);
-    if !net::look::takes_kind(t, a, k) {
+    let k = look::kind_of(t, q);
+    if !look::takes_kind(t, a, k) {
         return 0;
     }
-    if net::look::input(t, a, k) != q {
+    if look::input(t, a, k) != q {
         return 0;
     }
     1
@@ -196,7 +196,7 @@ fn taken_by_events(rec: &[u8], t: &[u32; 1684], q: usize) -> u32
     requires { ⌜ q < netIn (now t) .places ⌝ }
     ensures { λ r. ⌜ (r ≡ sumTo (netIn (now (t .entry)) .acts) (λ a. getD (stateAt (now (rec .entry)) .fired) a 0 * inputs (netIn (now (t .entry))) q a)) × (r ≤ 64000000) ⌝ }
 {
-    let n = net::look::acts(t);
+    let n = look::acts(t);
     let mut sum = 0u32;
     let mut a = 0;
     while a < n {
@@ -213,7 +213,7 @@ fn sinks_on(rec: &[u8], t: &[u32; 1684], q: usize, o: usize) -> u32
     ensures { λ r. ⌜ (r ≡ one (eqb q (netIn (now (t .entry)) .sink (getD (stateAt (now (rec .entry)) .kinds) o 0)))) × (r ≤ 1) ⌝ }
 {
     let k = kind(rec, t, o);
-    if net::look::sink(t, k) != q {
+    if look::sink(t, k) != q {
         return 0;
     }
     1
@@ -250,7 +250,7 @@ fn all_jumps(rec: &[u8], t: &[u32; 1684]) -> u32
     requires { ⌜ Ready (now t) (now rec) ⌝ }
     ensures { λ r. ⌜ r ≡ storedJumps (netIn (now (t .entry))) (stateAt (now (rec .entry))) ⌝ }
 {
-    let n = net::look::acts(t);
+    let n = look::acts(t);
     let mut sum = 0u32;
     let mut a = 0;
     while a < n {
@@ -266,7 +266,7 @@ fn transfers(rec: &[u8], t: &[u32; 1684]) -> u32
     requires { ⌜ Ready (now t) (now rec) ⌝ }
     ensures { λ r. ⌜ r ≡ storedTransfers (netIn (now (t .entry))) (stateAt (now (rec .entry))) ⌝ }
 {
-    let n = net::look::acts(t);
+    let n = look::acts(t);
     let mut sum = 0u32;
     let mut a = 0;
     while a < n {
@@ -284,7 +284,7 @@ pub fn read_place(rec: &[u8], t: &[u32; 1684], q: u32) -> PlaceRead
     ensures { λ r. ⌜ placeReadCode r ≡ placeCode (now (rec .entry)) q ⌝ }
 {
     let i = wide(q);
-    if net::look::places(t) <= i {
+    if look::places(t) <= i {
         return PlaceRead::Unknown;
     }
     PlaceRead::Counts(PlaceCounts {
@@ -301,7 +301,7 @@ pub fn read_act(rec: &[u8], t: &[u32; 1684], a: u32) -> ActRead
     ensures { λ r. ⌜ actReadCode r ≡ actCode (now (rec .entry)) a ⌝ }
 {
     let i = wide(a);
-    if net::look::acts(t) <= i {
+    if look::acts(t) <= i {
         return ActRead::Unknown;
     }
     ActRead::Counts(ActCounts {
@@ -317,7 +317,7 @@ pub fn read_pair(rec: &[u8], t: &[u32; 1684], from: u32, to: u32) -> PairRead
     ensures { λ r. ⌜ r ≡ pairRead (now (rec .entry)) from to ⌝ }
     ensures { λ r. ⌜ pairReadCode r ≡ pairCode (now (rec .entry)) from to ⌝ }
 {
-    let n = net::look::places(t);
+    let n = look::places(t);
     let x = wide(from);
     let y = wide(to);
     if n <= x {

@@ -96,10 +96,10 @@ fn refuse(
     if 1000000 <= words::get_word(rec, lay.counts + 1) {
         return EventAnswer::Full;
     }
-    if net::look::acts(t) <= act {
+    if look::acts(t) <= act {
         return EventAnswer::Activity;
     }
-    if objs.len() / 4 != net::look::arcs(t, act) {
+    if objs.len() / 4 != look::arcs(t, act) {
         return EventAnswer::Number;
     }
     test_objects(rec, t, lay, act, objs, kinds)
@@ -138,8 +138,8 @@ fn step_objects(
     while done < n {
         let o = words::wide(words::get_word(objs, done));
         let k = words::wide(kinds[done]);
-        let inp = net::look::input(t, act, k);
-        let out = net::look::output(t, act, k) as u32;
+        let inp = look::input(t, act, k);
+        let out = look::output(t, act, k) as u32;
         jumps += move_object(rec, lay, o, inp, out);
         done += 1;
     }

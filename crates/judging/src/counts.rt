@@ -49,12 +49,12 @@ fn some_jumps_above(cs: &[u8], t: &[u32; 1684]) -> bool
     requires { ⌜ length (wordsOf (now cs)) ≡ countsSize (netIn (now t)) ⌝ }
     ensures { λ r. ⌜ r ≡ anyTo (netIn (now (t .entry)) .acts) (λ (a : ℕ). ltb (getD (wordsOf (now (cs .entry))) (3 + 2 * a) 0 * length (netIn (now (t .entry)) .arcs a)) (getD (wordsOf (now (cs .entry))) (4 + 2 * a) 0)) ⌝ }
 {
-    let n = net::look::acts(t);
+    let n = look::acts(t);
     let mut a = 0;
     while a < n {
         if jumps_above(
             words::get_word(cs, 3 + 2 * a),
-            net::look::arcs(t, a),
+            look::arcs(t, a),
             words::get_word(cs, 4 + 2 * a),
         ) {
             return true;
@@ -82,7 +82,7 @@ pub fn bad_counts(ks: &[u8], cs: &[u8], t: &[u32; 1684]) -> bool
     requires { ⌜ Held (now t) ⌝ }
     ensures { λ r. ⌜ r ≡ hit (tests46 (netIn (now (t .entry))) (bodyState (now (ks .entry)) [] (now (cs .entry)) []) (length (now (cs .entry)))) ⌝ }
 {
-    let acts = net::look::acts(t);
+    let acts = look::acts(t);
     if cs.len() != 4 * (3 + 2 * acts) {
         return true;
     }

@@ -23,7 +23,7 @@ fn foreign_count(t: &[u32; 1684], k: usize, y: usize, v: u64) -> u64
     requires { ⌜ y < netIn (now t) .places ⌝ }
     ensures { λ r. ⌜ r ≡ pick (eqb k (netIn (now (t .entry)) .kindOf y)) 0 v ⌝ }
 {
-    if k == net::look::kind_of(t, y) {
+    if k == look::kind_of(t, y) {
         return 0;
     }
     v
@@ -38,8 +38,8 @@ fn add_row(js: &[u8], t: &[u32; 1684], x: usize, into: &mut [u64; 64]) -> u64
     ensures { λ r. ⌜ Added (netIn (now (t .entry)) .places) (now (into .entry)) (now (into .exit)) (pairIn (netIn (now (t .entry))) (now (js .entry)) x) ⌝ }
     ensures { λ r. ⌜ AtMost (netIn (now (t .entry)) .places) (x * 4294967296 + 4294967296) (now (into .exit)) ⌝ }
 {
-    let n = net::look::places(t);
-    let k = net::look::kind_of(t, x);
+    let n = look::places(t);
+    let k = look::kind_of(t, x);
     let at = x * n;
     let mut off = wide64(words::get_word(js, at + x));
     let mut y = 0;
@@ -61,7 +61,7 @@ fn add_rows(js: &[u8], t: &[u32; 1684], into: &mut [u64; 64]) -> u64
     ensures { λ r. ⌜ Added (netIn (now (t .entry)) .places) (now (into .entry)) (now (into .exit)) (λ (y : ℕ). sumTo (netIn (now (t .entry)) .places) (λ (x : ℕ). pairIn (netIn (now (t .entry))) (now (js .entry)) x y)) ⌝ }
     ensures { λ r. ⌜ AtMost (netIn (now (t .entry)) .places) 274877906944 (now (into .exit)) ⌝ }
 {
-    let n = net::look::places(t);
+    let n = look::places(t);
     let mut off = 0;
     let mut x = 0;
     while x < n {
@@ -93,10 +93,10 @@ fn take_kind(t: &[u32; 1684], a: usize, k: usize, fired: u32, taken: &mut [u64; 
     requires { ⌜ AtMost (netIn (now t) .places) 2199023255552 (now taken) ⌝ }
     ensures { λ _. ⌜ Added (netIn (now (t .entry)) .places) (now (taken .entry)) (now (taken .exit)) (λ (q : ℕ). fired * takenBy (netIn (now (t .entry))) a q k) ⌝ }
 {
-    if !net::look::takes_kind(t, a, k) {
+    if !look::takes_kind(t, a, k) {
         return;
     }
-    let p = net::look::input(t, a, k);
+    let p = look::input(t, a, k);
     taken[p] += wide64(fired);
 }
 
@@ -108,7 +108,7 @@ fn take_arcs(t: &[u32; 1684], a: usize, fired: u32, taken: &mut [u64; 64])
     ensures { λ _. ⌜ Added (netIn (now (t .entry)) .places) (now (taken .entry)) (now (taken .exit)) (λ (q : ℕ). fired * inputs (netIn (now (t .entry))) q a) ⌝ }
     ensures { λ _. ⌜ AtMost (netIn (now (t .entry)) .places) (a * 34359738368 + 34359738368) (now (taken .exit)) ⌝ }
 {
-    let n = net::look::kinds(t);
+    let n = look::kinds(t);
     let mut k = 0;
     while k < n {
         take_kind(t, a, k, fired, taken);
@@ -124,7 +124,7 @@ fn take_inputs(cs: &[u8], t: &[u32; 1684], taken: &mut [u64; 64])
     ensures { λ _. ⌜ Added (netIn (now (t .entry)) .places) (now (taken .entry)) (now (taken .exit)) (λ (q : ℕ). sumTo (netIn (now (t .entry)) .acts) (λ (a : ℕ). getD (wordsOf (now (cs .entry))) (3 + 2 * a) 0 * inputs (netIn (now (t .entry))) q a)) ⌝ }
     ensures { λ _. ⌜ AtMost (netIn (now (t .entry)) .places) 2199023255552 (now (taken .exit)) ⌝ }
 {
-    let n = net::look::acts(t);
+    let n = look::acts(t);
     let mut a = 0;
     while a < n {
         take_arcs(t, a, words::get_word(cs, 3 + 2 * a), taken);
@@ -142,7 +142,7 @@ fn take_sinks(ks: &[u8], t: &[u32; 1684], taken: &mut [u64; 64])
     let n = ks.len() / 4;
     let mut i = 0;
     while i < n {
-        let q = net::look::sink(t, wide(words::get_word(ks, i)));
+        let q = look::sink(t, wide(words::get_word(ks, i)));
         taken[q] += 1;
         i += 1;
     }
@@ -185,7 +185,7 @@ fn above_taken(ks: &[u8], cs: &[u8], t: &[u32; 1684], into: &[u64; 64]) -> bool
     let mut taken = [0u64; 64];
     take_inputs(cs, t, &mut taken);
     take_closed(ks, words::get_word(cs, 0), t, &mut taken);
-    above(&taken, into, net::look::places(t))
+    above(&taken, into, look::places(t))
 }
 
 // 47: length, counts that no jump can have, the sum, IN above TAKEN.
@@ -194,7 +194,7 @@ pub fn bad_jumps(ks: &[u8], cs: &[u8], js: &[u8], t: &[u32; 1684]) -> bool
     requires { ⌜ Counted (netIn (now t)) (now ks) (now cs) ⌝ }
     ensures { λ r. ⌜ r ≡ hit (tests47 (netIn (now (t .entry))) (bodyState (now (ks .entry)) [] (now (cs .entry)) (now (js .entry))) (length (now (js .entry)))) ⌝ }
 {
-    let n = net::look::places(t);
+    let n = look::places(t);
     if js.len() != 4 * (n * n) {
         return true;
     }
@@ -202,7 +202,7 @@ pub fn bad_jumps(ks: &[u8], cs: &[u8], js: &[u8], t: &[u32; 1684]) -> bool
     if add_rows(js, t, &mut into) != 0 {
         return true;
     }
-    let jumps = sum_every(cs, 4, net::look::acts(t)) + wide64(words::get_word(cs, 2));
+    let jumps = sum_every(cs, 4, look::acts(t)) + wide64(words::get_word(cs, 2));
     if sum_row(&into, n) != jumps {
         return true;
     }

@@ -28,12 +28,12 @@ fn bad_position(t: &[u32; 1684], k: usize, p: usize, closed: bool) -> bool
     ensures { λ r. ⌜ r ≡ badPosition (netIn (now (t .entry))) closed k p ⌝ }
 {
     if closed {
-        return p != net::look::sink(t, k);
+        return p != look::sink(t, k);
     }
-    if net::look::places(t) <= p {
+    if look::places(t) <= p {
         return true;
     }
-    net::look::kind_of(t, p) != k
+    look::kind_of(t, p) != k
 }
 
 // 45: one row for each object, each on a known place of its kind, and on its sink in a closed trail.

@@ -1,11 +1,9 @@
-// The net: what it is, what loading promises of it, the answers of loading, and the look-ups of a loaded net in lent words.
-// Above `words`. `places`, `arcs`, `routes` and `loader` test and fill the words; the crates above them use what `Held` and
-// `Loaded` promise, and never a table's bytes or the words' places.
+// The net: what it is, what loading promises of it, the answers of loading, and where its parts stand in lent words.
+// Above `words`. `places`, `arcs`, `routes` and `loader` test and fill the words, `look` reads them; the crates above use what `Held`
+// and `Loaded` promise, and never a table's bytes or the words' places.
 
 ghost use mathlib.Core.Path.{_≡_};
 ghost use Rattle.net.specs.Answer.{codeOf};
-
-pub mod look;
 
 // Where the parts of a net stand in its 1,684 words, as `specs/Held.antt` says. The source and the sink of a kind stand side by
 // side, and so do the two places of an arc; the last part has eight words an activity.

@@ -3,7 +3,6 @@
 use crate::read::after;
 use crate::read::put_part;
 use net::LoadAnswer;
-use net::look;
 use words::wide;
 ghost use mathlib.Core.Path.{_≡_};
 ghost use Prim.Native.Nat.{_<_};

@@ -32,7 +32,7 @@ fn counts_bytes(t: &[u32; 1684]) -> usize
     requires { ⌜ Held (now t) ⌝ }
     ensures { λ r. ⌜ (r ≡ 4 * countsSize (netIn (now (t .entry)))) × (r ≤ 524) ⌝ }
 {
-    let n = net::look::acts(t);
+    let n = look::acts(t);
     4 * (3 + 2 * n)
 }
 
@@ -41,7 +41,7 @@ fn pairs_bytes(t: &[u32; 1684]) -> usize
     requires { ⌜ Held (now t) ⌝ }
     ensures { λ r. ⌜ (r ≡ 4 * (netIn (now (t .entry)) .places * netIn (now (t .entry)) .places)) × (r ≤ 16384) ⌝ }
 {
-    let n = net::look::places(t);
+    let n = look::places(t);
     4 * (n * n)
 }
 
@@ -101,7 +101,7 @@ fn put_source(t: &[u32; 1684], objects: &[u8], i: usize, out: &mut [u8], at: usi
     ensures { λ _. ⌜ wordsOf (now (out .exit)) ≡ set (wordsOf (now (out .entry))) at (getD (map (netIn (now (t .entry)) .source) (wordsOf (now (objects .entry)))) i 0) ⌝ }
 {
     let k = words::wide(words::get_word(objects, i));
-    let q = net::look::source(t, k);
+    let q = look::source(t, k);
     words::put_word(out, at, q as u32);
 }
 

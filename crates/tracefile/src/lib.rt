@@ -2,8 +2,8 @@
 // Above `opening`, which says where the events stand, `replay` and `net`; `following` uses it.
 
 use crate::objects::read_objects;
-use net::look::acts;
-use net::look::arcs;
+use look::acts;
+use look::arcs;
 use opening::Contents;
 use opening::read_contents;
 use replay::objects::refuse_objects;

@@ -1,0 +1,99 @@
+// Looking up a loaded net, each in one step. What is said of the words is said of the net that they hold.
+// Above `net`; all that lies above the loading of tables reads a net by it alone.
+
+use net::COUNTS;
+use net::INDEX;
+use net::PLACES;
+use net::SINKS;
+use net::SOURCES;
+use words::wide;
+ghost use mathlib.Core.Path.{_≡_};
+ghost use mathlib.Core.Bool.{true};
+ghost use Prim.Native.Nat.{_<_};
+ghost use lib.ListN.{length};
+ghost use Rattle.net.specs.Net.{takes, inputOf, outputOf};
+ghost use Rattle.net.specs.Held.{netIn, Held};
+
+pub fn kinds(t: &[u32; 1684]) -> usize
+    requires { ⌜ Held (now t) ⌝ }
+    ensures { λ r. ⌜ r ≡ netIn (now (t .entry)) .kinds ⌝ }
+{
+    wide(t[0])
+}
+
+pub fn places(t: &[u32; 1684]) -> usize
+    requires { ⌜ Held (now t) ⌝ }
+    ensures { λ r. ⌜ r ≡ netIn (now (t .entry)) .places ⌝ }
+{
+    wide(t[1])
+}
+
+pub fn acts(t: &[u32; 1684]) -> usize
+    requires { ⌜ Held (now t) ⌝ }
+    ensures { λ r. ⌜ r ≡ netIn (now (t .entry)) .acts ⌝ }
+{
+    wide(t[2])
+}
+
+// The source of kind k.
+pub fn source(t: &[u32; 1684], k: usize) -> usize
+    requires { ⌜ Held (now t) ⌝ }
+    requires { ⌜ k < netIn (now t) .kinds ⌝ }
+    ensures { λ r. ⌜ r ≡ netIn (now (t .entry)) .source k ⌝ }
+{
+    wide(t[SOURCES + 2 * k])
+}
+
+// The sink of kind k.
+pub fn sink(t: &[u32; 1684], k: usize) -> usize
+    requires { ⌜ Held (now t) ⌝ }
+    requires { ⌜ k < netIn (now t) .kinds ⌝ }
+    ensures { λ r. ⌜ r ≡ netIn (now (t .entry)) .sink k ⌝ }
+{
+    wide(t[SINKS + 2 * k])
+}
+
+// The kind of place p.
+pub fn kind_of(t: &[u32; 1684], p: usize) -> usize
+    requires { ⌜ Held (now t) ⌝ }
+    requires { ⌜ p < netIn (now t) .places ⌝ }
+    ensures { λ r. ⌜ r ≡ netIn (now (t .entry)) .kindOf p ⌝ }
+{
+    wide(t[PLACES + p])
+}
+
+// How many arcs activity a has.
+pub fn arcs(t: &[u32; 1684], a: usize) -> usize
+    requires { ⌜ Held (now t) ⌝ }
+    requires { ⌜ a < netIn (now t) .acts ⌝ }
+    ensures { λ r. ⌜ r ≡ length (netIn (now (t .entry)) .arcs a) ⌝ }
+{
+    wide(t[COUNTS + a])
+}
+
+// Activity a takes objects of kind k.
+pub fn takes_kind(t: &[u32; 1684], a: usize, k: usize) -> bool
+    requires { ⌜ Held (now t) ⌝ }
+    requires { ⌜ (a < netIn (now t) .acts) × (k < netIn (now t) .kinds) ⌝ }
+    ensures { λ r. ⌜ r ≡ takes (netIn (now (t .entry))) a k ⌝ }
+{
+    t[INDEX + 8 * a + k] != 0
+}
+
+// The place from which activity a takes an object of kind k.
+pub fn input(t: &[u32; 1684], a: usize, k: usize) -> usize
+    requires { ⌜ Held (now t) ⌝ }
+    requires { ⌜ (a < netIn (now t) .acts) × (k < netIn (now t) .kinds) × (takes (netIn (now t)) a k ≡ true) ⌝ }
+    ensures { λ r. ⌜ r ≡ inputOf (netIn (now (t .entry))) a k ⌝ }
+{
+    wide(t[INDEX + 8 * a + k]) % 256 - 1
+}
+
+// The place on which activity a leaves an object of kind k.
+pub fn output(t: &[u32; 1684], a: usize, k: usize) -> usize
+    requires { ⌜ Held (now t) ⌝ }
+    requires { ⌜ (a < netIn (now t) .acts) × (k < netIn (now t) .kinds) × (takes (netIn (now t)) a k ≡ true) ⌝ }
+    ensures { λ r. ⌜ r ≡ outputOf (netIn (now (t .entry))) a k ⌝ }
+{
+    wide(t[INDEX + 8 * a + k]) / 256
+}
