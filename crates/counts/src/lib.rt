@@ -1,4 +1,5 @@
 // Reading every count of document 01 from a trail's bytes: what is stored is looked up, and the rest is summed from it.
+// Above `look` and `replay`. `report` and `numbers` write what it reads.
 
 use replay::layout::read_layout;
 use words::wide;

@@ -1,4 +1,5 @@
 // Starting a trail: its first record, written into lent bytes from a loaded table and the objects' kinds.
+// Above `look` and `replay`, whose definitions its contracts cite. The program and the C calls start by it.
 
 use replay::register::register_refusal;
 ghost use mathlib.Core.Path.{_≡_};
