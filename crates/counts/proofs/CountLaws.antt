@@ -4,7 +4,6 @@ use mathlib.Core.Bool.{Bool, true, false}
 use mathlib.Core.Path.{_≡_, refl, ap, sym, subst, _∙_}
 use mathlib.Core.List.{List, [], _∷_, map}
 use native.Mathlib.Omega.{arith}
-use native.Mathlib.Numerals.{add-one}
 use native.Mathlib.Nat.{zero-add, mul-le-mul, mul-le-mul-right}
 use native.Mathlib.Decide.{ℕ-discrete}
 use lib.ListN.{length, getD}
@@ -14,6 +13,7 @@ use borrow.Author.Tests.{eq-eqb, ne-eqb}
 use Rattle.words.specs.Lists.{pick, has, twice, one, total, sumTo}
 use Rattle.words.specs.Words.{wordsOf}
 use Rattle.words.proofs.Lists.{clash, All-at}
+use Rattle.words.proofs.Sums.{sumTo-more}
 use Rattle.net.specs.Net.{Net, Arc, Loaded, takes, arcOf, inputOf}
 use Rattle.net.specs.Held.{netIn}
 use Rattle.replay.specs.declared.layout.Layout.{Layout}
@@ -26,15 +26,12 @@ use Rattle.replay.proofs.Encode.{recordWords, fired-le, jumps-le, pairs-le}
 use Rattle.replay.proofs.RecordLaws.{Placed, record-size, record-few, get-kind, get-closed, get-events, get-closing, get-fired, get-jumps, get-pair, ready-loaded, ready-sound, ready-words, ready-placed}
 
 -- sums
-sum-turn : (n : ℕ) (f : ℕ → ℕ) → sumTo (n + 1) f ≡ f n + sumTo n f
-sum-turn n f = ap (λ (k : ℕ). sumTo k f) (add-one n)
-
 sum-under : (n m : ℕ) (f : ℕ → ℕ) → ((i : ℕ) → i < n → f i ≤ m) → (i : ℕ) → i ≤ n → sumTo i f ≤ i * m
 sum-under n m f h zero l = omega arith
 sum-under n m f h (suc i) l = omega (arith, h i (omega arith), sum-under n m f h i (omega arith))
 
 pub sum-step : (n : ℕ) (f : ℕ → ℕ) {s v : ℕ} → s ≡ sumTo n f → v ≡ f n → s + v ≡ sumTo (n + 1) f
-sum-step n f p q = omega (arith, sum-turn n f)
+sum-step n f p q = omega (arith, sumTo-more n f)
 
 -- at most 64 numbers
 sum-few : (n m : ℕ) (f : ℕ → ℕ) → n ≤ 64 → ((i : ℕ) → i < n → f i ≤ m) → (i : ℕ) → i ≤ n → sumTo i f ≤ 64 * m

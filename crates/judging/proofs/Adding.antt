@@ -5,7 +5,7 @@ use mathlib.Core.Path.{_≡_, refl, ap, sym, _∙_}
 use mathlib.Core.List.{List}
 use native.Mathlib.Omega.{arith}
 use native.Mathlib.Decide.{ℕ-discrete}
-use native.Mathlib.Nat.{suc-mul, mul-le-mul, mul-le-mul-right}
+use native.Mathlib.Nat.{suc-mul, mul-le-mul-right}
 use lib.ListN.{length, getD, set, replicate, length-set, length-replicate}
 use lib.Seq.{getD-set-same, getD-set-other}
 use Rattle.words.specs.Lists.{pick}
@@ -15,9 +15,6 @@ use Rattle.judging.specs.Judge.{AtMost, Added}
 -- a pair's index
 pub pair-in : (n x y : ℕ) → x < n → y < n → x * n + y < n * n
 pair-in n x y hx hy = let m : suc x * n ≤ n * n = mul-le-mul-right n hx in omega (arith, suc-mul x n)
-
-pub square-le : (n : ℕ) → n ≤ 64 → n * n ≤ 4096
-square-le n h = mul-le-mul h h
 
 pub pick-le : (b : Bool) (v : ℕ) → pick b 0 v ≤ v
 pick-le true v = omega arith

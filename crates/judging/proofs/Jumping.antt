@@ -8,7 +8,7 @@ use native.Mathlib.Decide.{ℕ-discrete}
 use lib.ListN.{getD, drop}
 use lib.Dec.{ltb, eqb}
 use borrow.Author.Tests.{eq-eqb, ne-eqb}
-use Rattle.words.specs.Lists.{pick, anyTo, sumTo, both}
+use Rattle.words.specs.Lists.{anyTo, sumTo, both}
 use Rattle.words.specs.Words.{wordsOf}
 use Rattle.words.proofs.Lists.{anyTo-none, anyTo-false, is-eq, not-eqb, both-false, both-then}
 use Rattle.words.proofs.Sums.{sumTo-same}
@@ -17,7 +17,7 @@ use Rattle.replay.specs.State.{inputs, sunkOn, storedConsumed}
 use Rattle.replay.specs.Record.{odds}
 use Rattle.checkpoint.specs.Restore.{apart, tests47}
 use Rattle.judging.specs.Judge.{hit, bodyState, pairIn, foreignIn, barredIn}
-use Rattle.judging.proofs.Totals.{same-false, sum-none, none-sum, any-sum, sum-columns, fired-at, jumps-at}
+use Rattle.judging.proofs.Totals.{alone, same-false, sum-none, none-sum, any-sum, sum-columns, fired-at, jumps-at}
 
 module _ (N : Net) (js : List ℕ) where
   -- a count from x to y that is not 0 where no jump can lead
@@ -85,8 +85,4 @@ module _ (N : Net) (ks cs js : List ℕ) (size : ℕ) where
       pub jumps-above : sumTo (N .places) into ≡ jumps → anyTo (N .places) (λ (q : ℕ). ltb (storedConsumed N (bodyState ks [] cs []) q) (into q)) ≡ answer
       jumps-above s =
           rw (eq-eqb size (4 * (N .places * N .places)) e, barred-is N js, eq-eqb (sumTo (N .places) (barredIn N js)) 0 z, sum-is, jumps-is, eq-eqb (sumTo (N .places) into) jumps s)
-          (last _)
-        where
-          last : (b : Bool) → b ≡ pick b true false
-          last true = refl
-          last false = refl
+          (alone _)

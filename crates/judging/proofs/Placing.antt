@@ -13,6 +13,7 @@ use Rattle.net.specs.Net.{Net, Loaded}
 use Rattle.replay.specs.State.{State}
 use Rattle.checkpoint.specs.Restore.{tests45}
 use Rattle.judging.specs.Judge.{hit, badPosition}
+use Rattle.judging.proofs.Totals.{alone}
 
 or-last : (a b : Bool) → true ≡ pick a true (pick b true true)
 or-last true b = refl
@@ -32,11 +33,7 @@ module _ (N : Net) (k p : ℕ) where
   open-unknown h = rw (le-leb _ _ h)
 
   pub open-known : p < N .places → not (eqb (N .kindOf p) k) ≡ badPosition N false k p
-  open-known h = rw (lt-leb _ _ h) (last _)
-    where
-      last : (b : Bool) → b ≡ pick b true false
-      last true = refl
-      last false = refl
+  open-known h = rw (lt-leb _ _ h) (alone _)
 
 -- a search for one of three is three searches
 or-swap : (a x b y c z : Bool) → pick (either (a ∷ b ∷ c ∷ [])) true (either (x ∷ y ∷ z ∷ [])) ≡ either (pick a true x ∷ pick b true y ∷ pick c true z ∷ [])

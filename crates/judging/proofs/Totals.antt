@@ -2,17 +2,17 @@
 use Prim.Native.Nat.{ℕ, zero, suc, _+_, _*_, _<_}
 use mathlib.Core.Bool.{Bool, true, false, not}
 use mathlib.Core.Path.{_≡_, refl, ap, sym, _∙_}
-use mathlib.Core.List.{List, [], _∷_}
+use mathlib.Core.List.{List}
 use native.Mathlib.Omega.{arith}
-use native.Mathlib.Numerals.{add-one}
 use native.Mathlib.Nat.{zero-mul, suc-mul}
 use lib.ListN.{getD, drop}
 use lib.Seq.{getD-drop}
 use lib.Dec.{eqb}
-use Rattle.words.specs.Lists.{anyTo, sumTo}
+use Rattle.words.specs.Lists.{pick, anyTo, sumTo}
 use Rattle.words.proofs.Lists.{is-eq, not-eqb, anyTo-none, anyTo-false}
 use Rattle.words.proofs.Sums.{sumTo-same, sumTo-zero, sumTo-add, term-le}
 use Rattle.replay.specs.Record.{evens, odds}
+use Rattle.replay.proofs.Interleave.{evens-at, odds-at}
 
 -- two tests that fail together
 pub same-false : (a b : Bool) → (a ≡ false → b ≡ false) → (b ≡ false → a ≡ false) → a ≡ b
@@ -20,6 +20,11 @@ same-false true true f g = refl
 same-false true false f g = g refl
 same-false false true f g = sym (f refl)
 same-false false false f g = refl
+
+-- a test that stands last in a search
+pub alone : (b : Bool) → b ≡ pick b true false
+alone true = refl
+alone false = refl
 
 -- a sum is 0 where each of its terms is
 pub sum-none : (n : ℕ) (f : ℕ → ℕ) → sumTo n f ≡ 0 → (i : ℕ) → i < n → f i ≡ 0
@@ -33,10 +38,6 @@ pub any-sum : (n : ℕ) (f : ℕ → Bool) (g : ℕ → ℕ) → ((i : ℕ) → 
 any-sum n f g h =
     same-false _ _ (λ e. not-eqb _ _ (none-sum n g (λ i l. is-eq _ _ (sym (h i l) ∙ anyTo-none n f e i l))))
     (λ e. anyTo-false n f (λ i l. h i l ∙ not-eqb _ _ (sum-none n g (is-eq _ _ e) i l)))
-
--- one number more
-pub sum-more : (n : ℕ) (f : ℕ → ℕ) → sumTo (n + 1) f ≡ f n + sumTo n f
-sum-more n f = rw add-one
 
 sum-swap : (n m : ℕ) (f : ℕ → ℕ → ℕ) → sumTo n (λ (i : ℕ). sumTo m (f i)) ≡ sumTo m (λ (j : ℕ). sumTo n (λ (i : ℕ). f i j))
 sum-swap zero m f = sym (sumTo-zero m)
@@ -54,24 +55,9 @@ sum-rows (suc n) m f = rw suc-mul (sum-append m (n * m) f ∙ ap (λ (s : ℕ). 
 pub sum-columns : (n m : ℕ) (f : ℕ → ℕ) → sumTo (n * m) f ≡ sumTo m (λ (y : ℕ). sumTo n (λ (x : ℕ). f (x * m + y)))
 sum-columns n m f = sum-rows n m f ∙ sum-swap n m (λ (x y : ℕ). f (x * m + y))
 
--- the numbers with even and with odd index
-evens-at : (l : List ℕ) (a : ℕ) → getD (evens l) a 0 ≡ getD l (2 * a) 0
-evens-at [] a = refl
-evens-at (x ∷ []) zero = refl
-evens-at (x ∷ []) (suc a) = let e : 2 * suc a ≡ suc (suc (2 * a)) = omega arith in rw e
-evens-at (x ∷ y ∷ r) zero = refl
-evens-at (x ∷ y ∷ r) (suc a) = let e : 2 * suc a ≡ suc (suc (2 * a)) = omega arith in rw e (evens-at r a)
-
-odds-at : (l : List ℕ) (a : ℕ) → getD (odds l) a 0 ≡ getD l (1 + 2 * a) 0
-odds-at [] a = refl
-odds-at (x ∷ []) zero = refl
-odds-at (x ∷ []) (suc a) = let e : 1 + 2 * suc a ≡ suc (suc (1 + 2 * a)) = omega arith in rw e
-odds-at (x ∷ y ∷ r) zero = refl
-odds-at (x ∷ y ∷ r) (suc a) = let e : 1 + 2 * suc a ≡ suc (suc (1 + 2 * a)) = omega arith in rw e (odds-at r a)
-
 -- FIRED and JUMPS of activity a in the numbers of a counts body
 pub fired-at : (cs : List ℕ) (a : ℕ) → getD (evens (drop 3 cs)) a 0 ≡ getD cs (3 + 2 * a) 0
 fired-at cs a = evens-at (drop 3 cs) a ∙ getD-drop 3 cs (2 * a) 0
 
 pub jumps-at : (cs : List ℕ) (a : ℕ) → getD (odds (drop 3 cs)) a 0 ≡ getD cs (4 + 2 * a) 0
-jumps-at cs a = let e : 3 + (1 + 2 * a) ≡ 4 + 2 * a = omega arith in odds-at (drop 3 cs) a ∙ getD-drop 3 cs (1 + 2 * a) 0 ∙ ap (λ (i : ℕ). getD cs i 0) e
+jumps-at cs a = let e : 3 + (2 * a + 1) ≡ 4 + 2 * a = omega arith in odds-at (drop 3 cs) a ∙ getD-drop 3 cs (2 * a + 1) 0 ∙ ap (λ (i : ℕ). getD cs i 0) e

@@ -120,7 +120,7 @@ pub record Laid (b table : List ℕ) (d : State) : Type 0 where
   pub counts-are : wordsFrom b (countsAt table d) (length (counts d)) ≡ counts d
   pub pairs-are : wordsFrom b (pairsAt table d) (length (d .pairs)) ≡ d .pairs
 
-square : (n : ℕ) → n ≤ 64 → n * n ≤ 4096
+pub square : (n : ℕ) → n ≤ 64 → n * n ≤ 4096
 square n h = omega (arith, mul-le-mul h h)
 
 four : (n : ℕ) → 4 * n / 4 ≡ n

@@ -3,6 +3,7 @@ use Prim.Native.Nat.{ℕ, zero, suc, _+_, _*_, _≤_, _<_}
 use mathlib.Core.Bool.{Bool, true, false}
 use mathlib.Core.Path.{_≡_, refl, ap, sym, _∙_}
 use mathlib.Core.List.{List, [], _∷_, _++_, map}
+use native.Mathlib.Numerals.{add-one}
 use native.Mathlib.Omega.{arith}
 use native.Mathlib.Decide.{ℕ-discrete}
 use lib.ListN.{length}
@@ -54,6 +55,10 @@ module _ {A : Type 0} where
 pub sumTo-same : (n : ℕ) (f g : ℕ → ℕ) → ((i : ℕ) → i < n → f i ≡ g i) → sumTo n f ≡ sumTo n g
 sumTo-same zero f g h = refl
 sumTo-same (suc n) f g h = omega (arith, h n (omega arith), sumTo-same n f g (λ i l. h i (omega arith)))
+
+-- one number more
+pub sumTo-more : (n : ℕ) (f : ℕ → ℕ) → sumTo (n + 1) f ≡ f n + sumTo n f
+sumTo-more n f = ap (λ (k : ℕ). sumTo k f) (add-one n)
 
 pub sumTo-zero : (n : ℕ) → sumTo n (λ (i : ℕ). 0) ≡ 0
 sumTo-zero zero = refl

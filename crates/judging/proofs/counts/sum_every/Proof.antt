@@ -5,7 +5,7 @@ use native.Mathlib.Omega.{arith}
 use lib.ListN.{getD}
 use Rattle.words.specs.Lists.{sumTo}
 use Rattle.words.specs.Words.{wordsOf}
-use Rattle.judging.proofs.Totals.{sum-more}
+use Rattle.words.proofs.Sums.{sumTo-more}
 use borrow.Author.Needs.{needs}
 use Rattle.judging.proofs.counts.sum_every.Statement.{statement}
 use Rattle.judging.proofs.counts.sum_every.Tie as tie
@@ -45,7 +45,7 @@ loop-again c =
     let l = c .before .before .before .loop in
     let s = c .before .before .before .before .before in
     let e : c .wide64 .result ≡ getD (wordsOf (s .args .cs .now)) (s .args .from + 2 * l .a) 0 = c .wide64 .ensures .0 ∙ c .before .get-word .ensures in
-    (omega arith, omega (arith, c .wide64 .ensures .1), omega (arith, sum-more (l .a) (λ (b : ℕ). getD (wordsOf (s .args .cs .now)) (s .args .from + 2 * b) 0)))
+    (omega arith, omega (arith, c .wide64 .ensures .1), omega (arith, sumTo-more (l .a) (λ (b : ℕ). getD (wordsOf (s .args .cs .now)) (s .args .from + 2 * b) 0)))
 
 returns : tie.Need-returns Inv-loop μ-loop
 returns c =

@@ -2,7 +2,7 @@
 use lib.Dec.{eqb}
 use Rattle.words.specs.Lists.{pick}
 use Rattle.net.proofs.HeldLaws.{held-loaded}
-use Rattle.judging.proofs.Totals.{sum-more}
+use Rattle.words.proofs.Sums.{sumTo-more}
 use Prim.Native.Nat.{ℕ, _+_, _-_, _*_, _≤_, _<_}
 use mathlib.Core.Path.{_≡_, ap, ap₂, subst, _∙_}
 use native.Mathlib.Omega.{arith}
@@ -11,7 +11,8 @@ use Rattle.words.specs.Lists.{sumTo}
 use Rattle.words.specs.Words.{wordsOf}
 use Rattle.net.specs.Held.{netIn}
 use Rattle.judging.specs.Judge.{pairIn, foreignIn, AtMost, Added}
-use Rattle.judging.proofs.Adding.{Pass, pass-begin, pass-turn, pass-end, pair-in, square-le, pick-le}
+use Rattle.replay.proofs.Encode.{square}
+use Rattle.judging.proofs.Adding.{Pass, pass-begin, pass-turn, pass-end, pair-in, pick-le}
 use borrow.Author.Needs.{needs}
 use Rattle.judging.proofs.jumps.add_row.Statement.{statement}
 use Rattle.judging.proofs.jumps.add_row.Tie as tie
@@ -29,7 +30,7 @@ first-in c =
     let P : ℕ = netIn (s .args .t .now) .places in
     let h = pair-in P (s .args .x) (s .args .x) (s .pre .1 .0 .0) (s .pre .1 .0 .0) in
     let e = ap (λ (n : ℕ). s .args .x * n) (c .before .places .ensures) in
-    (omega (arith, s .pre .1 .0 .1), omega (arith, square-le P (held-loaded (s .args .t .now) (s .pre .0) .places-le)))
+    (omega (arith, s .pre .1 .0 .1), omega (arith, square P (held-loaded (s .args .t .now) (s .pre .0) .places-le)))
 
 known : (c : tie.In-loop Inv-loop μ-loop) → (c .before .loop .y < netIn (c .before .before .before .before .before .before .before .args .t .now) .places) × (c .before .loop .y < 64)
 known c = let s = c .before .before .before .before .before .before .before in (omega (arith, c .before .before .before .before .before .places .ensures), omega (arith, c .before .before .before .before .before .places .ensures, held-loaded (s .args .t .now) (s .pre .0) .places-le))
@@ -40,7 +41,7 @@ next-in c =
     let P : ℕ = netIn (s .args .t .now) .places in
     let h = pair-in P (s .args .x) (c .before .loop .y) (s .pre .1 .0 .0) (known c .0) in
     let e = ap (λ (n : ℕ). s .args .x * n) (c .before .before .before .before .before .places .ensures) in
-    (omega (arith, s .pre .1 .0 .1), omega (arith, square-le P (held-loaded (s .args .t .now) (s .pre .0) .places-le)))
+    (omega (arith, s .pre .1 .0 .1), omega (arith, square P (held-loaded (s .args .t .now) (s .pre .0) .places-le)))
 
 -- the count read is the pair's
 value-is : (c : tie.After-wide642 Inv-loop μ-loop) → c .wide642 .result ≡ pairIn (netIn (c .before .before .before .before .before .before .before .before .before .args .t .now)) (c .before .before .before .before .before .before .before .before .before .args .js .now) (c .before .before .before .before .before .before .before .before .before .args .x) (c .before .before .before .loop .y)
@@ -126,7 +127,7 @@ loop-again c =
     let m = grown (c .before) in (
       omega (arith, known (c .before .before .before .before)),
       pass-turn (s .args .into .now) (pairIn N (s .args .js .now) (s .args .x)) _ (l .into) (l .y) _ (l .inv .1) (known (c .before .before .before .before) .1) (ap (λ (v : ℕ). getD (l .into) (l .y) 0 + v) (value-is (c .before .before))) m,
-      omega (arith, l .inv .2, counted c .0, sum-more (l .y) (foreignIn N (s .args .js .now) (s .args .x) (c .before .before .before .before .before .before .before .before .kind-of .result))),
+      omega (arith, l .inv .2, counted c .0, sumTo-more (l .y) (foreignIn N (s .args .js .now) (s .args .x) (c .before .before .before .before .before .before .before .before .kind-of .result))),
       omega (arith, l .inv .3, counted c .1),
     )
 

@@ -6,7 +6,7 @@ use Rattle.words.specs.Lists.{sumTo}
 use Rattle.net.specs.Held.{netIn}
 use Rattle.net.proofs.HeldLaws.{held-loaded}
 use Rattle.judging.specs.Judge.{pairIn, barredIn, AtMost, Added}
-use Rattle.judging.proofs.Totals.{sum-more}
+use Rattle.words.proofs.Sums.{sumTo-more}
 use Rattle.judging.proofs.Adding.{added-same, added-then, most-le}
 use borrow.Author.Needs.{needs}
 use Rattle.judging.proofs.jumps.add_rows.Statement.{statement}
@@ -46,9 +46,9 @@ loop-again c =
     let N = netIn (s .args .t .now) in
     let js = s .args .js .now in (
       omega arith,
-      omega (arith, l .inv .1, c .add-row .ensures .0 .0, sum-more (l .x) (barredIn N js)),
+      omega (arith, l .inv .1, c .add-row .ensures .0 .0, sumTo-more (l .x) (barredIn N js)),
       omega (arith, l .inv .2, c .add-row .ensures .0 .1),
-      added-then (l .inv .3) (c .add-row .ensures .1 .0) (λ y h. omega (arith, sum-more (l .x) (λ (x : ℕ). pairIn N js x y))),
+      added-then (l .inv .3) (c .add-row .ensures .1 .0) (λ y h. omega (arith, sumTo-more (l .x) (λ (x : ℕ). pairIn N js x y))),
       most-le (c .add-row .ensures .1 .1) _ (omega arith),
     )
 

@@ -15,7 +15,8 @@ use Rattle.net.specs.Held.{netIn}
 use Rattle.net.proofs.HeldLaws.{held-loaded}
 use Rattle.replay.specs.State.{storedConsumed}
 use Rattle.judging.specs.Judge.{bodyState, pairIn, barredIn, AtMost}
-use Rattle.judging.proofs.Adding.{square-le, zeros-most}
+use Rattle.replay.proofs.Encode.{square}
+use Rattle.judging.proofs.Adding.{zeros-most}
 use Rattle.judging.proofs.Counting.{any-same}
 use Rattle.judging.proofs.Jumping.{jumps-size, jumps-barred, jumps-sum, jumps-above}
 use borrow.Author.Needs.{needs}
@@ -23,7 +24,7 @@ use Rattle.judging.proofs.jumps.bad_jumps.Statement.{statement}
 use Rattle.judging.proofs.jumps.bad_jumps.Tie as tie
 
 few : (c : tie.After-places) → c .places .result * c .places .result ≤ 4096
-few c = let s = c .before .before .before .before in square-le (c .places .result) (omega (arith, c .places .ensures, held-loaded (s .args .t .now) (s .pre .0) .places-le))
+few c = let s = c .before .before .before .before in square (c .places .result) (omega (arith, c .places .ensures, held-loaded (s .args .t .now) (s .pre .0) .places-le))
 
 -- what each test that failed says
 sized : (c : tie.Else1) → length (c .before .before .before .before .before .args .js .now) ≡ 4 * (netIn (c .before .before .before .before .before .args .t .now) .places * netIn (c .before .before .before .before .before .args .t .now) .places)

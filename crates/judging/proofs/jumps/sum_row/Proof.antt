@@ -4,7 +4,7 @@ use mathlib.Core.Path.{_≡_, refl, ap, _∙_}
 use native.Mathlib.Omega.{arith}
 use lib.ListN.{getD}
 use Rattle.words.specs.Lists.{sumTo}
-use Rattle.judging.proofs.Totals.{sum-more}
+use Rattle.words.proofs.Sums.{sumTo-more}
 use borrow.Author.Needs.{needs}
 use Rattle.judging.proofs.jumps.sum_row.Statement.{statement}
 use Rattle.judging.proofs.jumps.sum_row.Tie as tie
@@ -38,7 +38,7 @@ loop-again c =
     let l = c .before .before .loop in
     let s = c .before .before .before in
     let m = s .pre .1 .at (l .q) (omega arith) in
-    (omega arith, omega arith, omega (arith, sum-more (l .q) (λ (p : ℕ). getD (s .args .into .now) p 0)))
+    (omega arith, omega arith, omega (arith, sumTo-more (l .q) (λ (p : ℕ). getD (s .args .into .now) p 0)))
 
 returns : tie.Need-returns Inv-loop μ-loop
 returns c =

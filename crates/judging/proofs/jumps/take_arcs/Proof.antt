@@ -3,7 +3,7 @@ use mathlib.Core.List.{List}
 use mathlib.Core.Path.{_≡_, refl, ap, _∙_}
 use native.Mathlib.Nat.{mul-zero, mul-add, mul-le-mul}
 use Rattle.net.proofs.HeldLaws.{held-loaded}
-use Rattle.judging.proofs.Totals.{sum-more}
+use Rattle.words.proofs.Sums.{sumTo-more}
 use Rattle.judging.proofs.Adding.{added-same, added-then, added-most, most-le}
 use Rattle.judging.proofs.Taking.{taken-le, taken-inputs}
 use Prim.Native.Nat.{ℕ, _+_, _-_, _*_, _≤_}
@@ -51,7 +51,7 @@ loop-again c =
     let s = c .before .before .before .before .before in
     let l = c .before .before .before .loop in
     let F = takenBy (netIn (s .args .t .now)) (s .args .a) in
-    (omega arith, added-then (l .inv .1) (c .take-kind .ensures) (λ q h. omega (arith, ap (λ (v : ℕ). s .args .fired * v) (sum-more (l .k) (F q)), mul-add (s .args .fired) (F q (l .k)) (sumTo (l .k) (F q)))))
+    (omega arith, added-then (l .inv .1) (c .take-kind .ensures) (λ q h. omega (arith, ap (λ (v : ℕ). s .args .fired * v) (sumTo-more (l .k) (F q)), mul-add (s .args .fired) (F q (l .k)) (sumTo (l .k) (F q)))))
 
 returns : tie.Need-returns Inv-loop μ-loop
 returns c =

@@ -10,7 +10,7 @@ use Rattle.net.specs.Held.{netIn}
 use Rattle.net.proofs.HeldLaws.{held-loaded}
 use Rattle.replay.specs.State.{inputs}
 use Rattle.judging.specs.Judge.{AtMost, Added}
-use Rattle.judging.proofs.Totals.{sum-more}
+use Rattle.words.proofs.Sums.{sumTo-more}
 use Rattle.judging.proofs.Adding.{added-same, added-then, most-le}
 use borrow.Author.Needs.{needs}
 use Rattle.judging.proofs.jumps.take_inputs.Statement.{statement}
@@ -56,7 +56,7 @@ loop-again c =
     let N = netIn (s .args .t .now) in
     let W : List ℕ = wordsOf (s .args .cs .now) in (
       omega arith,
-      added-then (l .inv .1) (c .take-arcs .ensures .0) (λ q h. omega (arith, sum-more (l .a) (λ (b : ℕ). getD W (3 + 2 * b) 0 * inputs N q b), ap (λ (v : ℕ). v * inputs N q (l .a)) (c .before .before .get-word .ensures))),
+      added-then (l .inv .1) (c .take-arcs .ensures .0) (λ q h. omega (arith, sumTo-more (l .a) (λ (b : ℕ). getD W (3 + 2 * b) 0 * inputs N q b), ap (λ (v : ℕ). v * inputs N q (l .a)) (c .before .before .get-word .ensures))),
       most-le (c .take-arcs .ensures .1) _ (omega arith),
     )
 
