@@ -2,7 +2,7 @@
 # The examples are what the tool makes of their descriptions; shown as text and made again they are the same files; and their
 # reports are the oracle's. Every mistake in a description is said in one line, with its line, and leaves no file changed.
 # The dumps and the sheet in docs/FORMATS.md are those of the examples.
-set -eu
+set -euo pipefail
 cd "$(dirname "$0")/.."
 work=$(mktemp -d)
 trap 'rm -rf "$work"' EXIT
@@ -141,7 +141,7 @@ cp "$work/plain.txt" "$work/held/route.tab"
 says 1 "$work/held/route.tab: the description itself; give another FOLDER" "$work/held/route.tab"
 cmp "$work/plain.txt" "$work/held/route.tab"
 # where there is no room for the trail, the table is not written either: no file may pass 1,024 bytes here
-{ cat "$work/plain.txt" && yes 'event x p' | head -n 100; } >"$work/long.txt"
+{ cat "$work/plain.txt" && for _ in {1..100}; do echo 'event x p'; done; } >"$work/long.txt"
 (ulimit -f 1 && says 1 "$work/out/trail: File too large" "$work/long.txt" "$work/out")
 
 # files that cannot be shown
@@ -155,3 +155,18 @@ says 1 "$work/cut: the events body ends inside the event at byte 20" --show "$wo
 echo 'kind k' >"$work/names.txt"
 says 1 "$work/names.txt: line 1: written \`kind KIND SOURCE SINK\`, not \`kind k\`" --show "$work/kept/route.tab" "$work/kept/trail" "$work/names.txt"
 echo "mistakes are said, and no file is left half written"
+
+# docs/FORMATS.md: its dumps, its sheet and its refused trail are those of T4 (the record's dump: tests/c_client.sh)
+page=docs/FORMATS.md
+python3 tests/dump.py "$page" table-M | cmp - examples/T4/route.tab
+python3 tests/dump.py "$page" trail-T4 | cmp - examples/T4/trail
+python3 tests/dump.py "$page" sheet-T4 | cmp - examples/T4/sheet
+cp examples/T4/route.tab "$work"
+head -c 92 examples/T4/trail >"$work/trail"
+program "$work" | diff - <(sed -n '/^    \$ head -c 92 trail/ { n; s/^    //p; }' "$page")
+# its refusals are those of the header, with the trail file's 71 and 73 that no C function gives; and it names every C function
+diff <(sed -n 's/^| \([0-9]\{1,2\}\) |.*/\1/p' "$page") \
+    <({ sed -n 's/^ \*  *\([0-9]\{1,2\}\)  .*/\1/p' include/conform.h && printf '71\n73\n'; } | sort -nu)
+functions() { grep -o 'conform_[a-z]*\(_[a-z]*\)\?' "$1" | sort -u; }
+diff <(functions "$page") <(functions <(grep '^uint64_t' include/conform.h))
+echo "$page is as the files and the header are"
