@@ -1,4 +1,5 @@
-/* conform.h: replaying exam trails from C.
+/* conform.h: replaying exam trails from C. docs/FORMATS.md has the words used here, the files byte by byte with an example of
+ * each, the sheet line by line, and all refusals in one table.
  *
  * Link with libclient.a (`rt staticlib client` writes target/staticlib/libclient.a). Nothing else is needed: no call allocates
  * memory, keeps anything from one call to the next, reads a file or prints. Calls on different trails may run at the same time.
@@ -9,6 +10,20 @@
  * the same call.
  *
  * NUMBERS in tables, object lists and counts are four bytes each, least significant first.
+ *
+ * A ROUTE TABLE begins with its contents: for each of its four bodies the byte at which it begins and its length in bytes. The
+ * bodies follow without gaps, to the table's end:
+ *   byte 0    contents     start and length of kinds, places, activities, arcs
+ *   byte 32   kinds        source, sink: two places of the kind    1 to 8 kinds, 8 bytes each
+ *   then      places       kind                                    2 to 64 places, 4 bytes each
+ *   then      activities   number of arcs, 1 to 8                  1 to 64 activities, 4 bytes each
+ *   then      arcs         input place, output place               8 bytes each, activity 0's first, then activity 1's
+ *
+ * HOW MANY places and activities there are is in the table's contents: the places are the length of their body, which is the
+ * number at byte 12, divided by 4, and the activities the number at byte 20 divided by 4. A trail holds its table from byte 40
+ * on, so the two numbers stand at its bytes 52 and 60. This holds of every table and trail that is not refused. Or count by
+ * asking: the places 0, 1, 2 and on have lines until the answer is 51, the activities until it is 52. The number of objects is
+ * the first number of conform_trail_counts.
  *
  * A TRAIL is held by the caller, as the bytes of its desk record: at most CONFORM_MAX_RECORD. conform_start and
  * conform_restore write it in front of a buffer and answer how long it is. From then on `trail_len` is exactly that length,
@@ -105,6 +120,7 @@ uint64_t conform_save(const uint8_t *trail, size_t trail_len, uint8_t *record, s
  *   place NUMBER TAKEN IN OUT FIT
  *   act NUMBER FIRED MOVED JUMPS FIT
  *   jump FROM TO COUNT          a count of 0 writes nothing: 0 bytes, taken even where line_len is 0
+ * A whole sheet has the trail's line, all places, all activities and then all pairs of places. FIT is rounded down.
  *
  *   41 to 47  the trail, as above
  *   51  unknown place (conform_place_line, conform_jump_line)

@@ -1,5 +1,6 @@
-/* record TABLE TRAIL EVENTS: replays the first EVENTS events of a trail file with the C functions, each checked by the number of
- * places and activities that include/conform.h reads from the table's contents, and writes the trail's desk record.
+/* record TABLE TRAIL EVENTS: replays the first EVENTS events of a trail file with the C functions and writes the trail's desk
+ * record to standard output. On the way it counts places, activities and objects as include/conform.h says, in every way that is
+ * named there. The files are those of examples/: nothing in them is checked here.
  */
 #include "conform.h"
 #include <stdio.h>
@@ -66,6 +67,10 @@ int main(int argc, char **argv)
     }
     if (CONFORM_NUMBER(conform_act_line(trail, trail_len, activities, line, sizeof line)) != 52) {
         fail("activities: not as many as the table's contents say");
+    }
+    taken("counts", conform_trail_counts(trail, trail_len, line, sizeof line));
+    if (number(line) != objects_len / 4) {
+        fail("objects: not as many as the register has");
     }
     fwrite(trail, 1, trail_len, stdout);
     return 0;
