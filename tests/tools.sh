@@ -1,7 +1,8 @@
 #!/usr/bin/env bash
 # The examples are what the tool makes of their descriptions; shown as text and made again they are the same files; and their
 # reports are the oracle's. Every mistake in a description is said in one line, with its line, and leaves no file changed.
-# The dumps and the sheet in docs/FORMATS.md are those of the examples.
+# The dumps and the sheet in docs/FORMATS.md are those of the examples, and its refusals are the header's.
+# shellcheck disable=SC2016  # the tool's lines have backquotes in them
 set -euo pipefail
 cd "$(dirname "$0")/.."
 work=$(mktemp -d)
@@ -82,7 +83,7 @@ says() {
 
 # fault DESCRIPTION LINE: a mistake in a description
 fault() {
-    printf "$1" >"$work/fault.txt"
+    printf '%b' "$1" >"$work/fault.txt"
     says 1 "$work/fault.txt: $2" "$work/fault.txt" "$work/out"
 }
 net='kind k a b\nplace a k\nplace b k\n'
@@ -167,6 +168,12 @@ program "$work" | diff - <(sed -n '/^    \$ head -c 92 trail/ { n; s/^    //p; }
 # its refusals are those of the header, with the trail file's 71 and 73 that no C function gives; and it names every C function
 diff <(sed -n 's/^| \([0-9]\{1,2\}\) |.*/\1/p' "$page") \
     <({ sed -n 's/^ \*  *\([0-9]\{1,2\}\)  .*/\1/p' include/conform.h && printf '71\n73\n'; } | sort -nu)
-functions() { grep -o 'conform_[a-z]*\(_[a-z]*\)\?' "$1" | sort -u; }
-diff <(functions "$page") <(functions <(grep '^uint64_t' include/conform.h))
+functions() { grep -o 'conform_[a-z]*\(_[a-z]*\)\?' | sort -u; }
+calls=$(grep '^uint64_t' include/conform.h | functions)
+diff <(functions <"$page") <(echo "$calls")
+# 51 and 52 come from the calls that the header names beside them, 61 from all calls but the three that write nothing beside a trail
+for number in 51 52; do
+    diff <(grep "^| $number |" "$page" | functions) <(grep "^ \*  *$number  " include/conform.h | functions)
+done
+diff <(grep '^| 61 |' "$page" | functions) <(grep -v -x 'conform_load\|conform_event\|conform_close' <<<"$calls")
 echo "$page is as the files and the header are"
