@@ -61,6 +61,7 @@ static void mark(const struct event *e)
     taken("event", conform_event(trail, trail_len, e->activity, objects, n));
 }
 
+/* Places and activities are asked for until there are no more; the table's contents have their numbers too (conform.h). */
 static void print_sheet(void)
 {
     uint8_t line[CONFORM_MAX_LINE];

@@ -155,6 +155,9 @@ printf '\x10\0\0\0\x04\0\0\0\x14\0\0\0\x08\0\0\0\0\0\0\0\0\0\0\0\x05\0\0\0' >"$w
 says 1 "$work/cut: the events body ends inside the event at byte 20" --show "$work/kept/route.tab" "$work/cut"
 echo 'kind k' >"$work/names.txt"
 says 1 "$work/names.txt: line 1: written \`kind KIND SOURCE SINK\`, not \`kind k\`" --show "$work/kept/route.tab" "$work/kept/trail" "$work/names.txt"
+status=0
+said=$(tools/maketrace --show "$work/kept/route.tab" "$work/kept/trail" 2>&1 >/dev/full) || status=$?
+[ "$status $said" = "1 maketrace: standard output: No space left on device" ]
 echo "mistakes are said, and no file is left half written"
 
 # docs/FORMATS.md: its dumps, its sheet and its refused trail are those of T4 (the record's dump: tests/c_client.sh)
