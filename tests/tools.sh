@@ -11,6 +11,9 @@ rustc --edition 2021 -O -D warnings tests/conform.rs -o "$work/conform_test"
 # the interpreter itself, where python3 is a script that looks for it: the tool is started some eighty times
 PATH="$(python3 -c 'import os, sys; print(os.path.dirname(sys.executable))'):$PATH"
 
+# is FOUND EXPECTED
+is() { [ "$1" = "$2" ] || { printf 'found: %s\nexpected: %s\n' "$1" "$2" && exit 1; }; }
+
 # program FOLDER: what the oracle prints for the folder's two files
 program() { (cd "$1" && "$work/conform_test" --program <trail); }
 
@@ -43,7 +46,7 @@ object o k
 event =99 o =4294967295
 TEXT
 tools/maketrace "$work/odd.txt"
-[ "$(program "$work")" = "refused 4 0" ]
+is "$(program "$work")" "refused 4 0"
 again "$work/route.tab" "$work/trail" "$work/odd.txt"
 sed 's/ *#.*//' "$work/odd.txt" | diff - "$work/shown.txt"
 
@@ -57,11 +60,11 @@ tools/maketrace "$work/plain.txt" "$work/plain"
 cmp "$work/digits/route.tab" "$work/plain/route.tab"
 cmp "$work/digits/trail" "$work/plain/trail"
 again "$work/digits/route.tab" "$work/digits/trail" "$work/digits.txt"
-[ "$(tail -n 2 "$work/shown.txt")" = $'event prüfen 1\nevent 7 0 0' ]
+is "$(tail -n 2 "$work/shown.txt")" $'event prüfen 1\nevent 7 0 0'
 # a made-up name keeps clear of the names that there are
 printf 'object o1 =0\n' >"$work/names.txt"
 again "$work/plain/route.tab" "$work/plain/trail" "$work/names.txt"
-[ "$(grep object "$work/shown.txt")" = $'object o1 k0\nobject o1_ k0' ]
+is "$(grep object "$work/shown.txt")" $'object o1 k0\nobject o1_ k0'
 
 # unchanged: the folder's two files are as they were, and no other is there
 mkdir "$work/out" "$work/kept"
@@ -137,7 +140,7 @@ says 1 "$work/out: Is a directory" "$work/out"
 says 1 "$work/none/route.tab: No such file or directory" "$work/plain.txt" "$work/none"
 mkdir -p "$work/held/trail"
 says 1 "$work/held/trail: no file that may be written" "$work/plain.txt" "$work/held"
-[ "$(ls "$work/held")" = trail ]
+is "$(ls "$work/held")" trail
 cp "$work/plain.txt" "$work/held/route.tab"
 says 1 "$work/held/route.tab: the description itself; give another FOLDER" "$work/held/route.tab"
 cmp "$work/plain.txt" "$work/held/route.tab"
@@ -157,7 +160,7 @@ echo 'kind k' >"$work/names.txt"
 says 1 "$work/names.txt: line 1: written \`kind KIND SOURCE SINK\`, not \`kind k\`" --show "$work/kept/route.tab" "$work/kept/trail" "$work/names.txt"
 status=0
 said=$(tools/maketrace --show "$work/kept/route.tab" "$work/kept/trail" 2>&1 >/dev/full) || status=$?
-[ "$status $said" = "1 maketrace: standard output: No space left on device" ]
+is "$status $said" "1 maketrace: standard output: No space left on device"
 echo "mistakes are said, and no file is left half written"
 
 # docs/FORMATS.md: its dumps, its sheet and its refused trail are those of T4 (the record's dump: tests/c_client.sh)
