@@ -1,5 +1,5 @@
-/* record TABLE TRAIL EVENTS: replays the first EVENTS events of a trail file with the C functions and writes the trail's desk
- * record to standard output. On the way it counts places, activities and objects as include/conform.h says, in every way that is
+/* record TABLE TRAIL EVENTS: replays the first EVENTS events of a trail file with the C functions and writes the desk record
+ * that conform_save gives to standard output. On the way it counts places, activities and objects as include/conform.h says, in every way that is
  * named there. The files are those of examples/: nothing in them is checked here.
  */
 #include "conform.h"
@@ -40,7 +40,7 @@ static uint32_t taken(const char *call, uint64_t answer)
 
 int main(int argc, char **argv)
 {
-    static uint8_t table[CONFORM_MAX_TABLE], file[65536], trail[CONFORM_MAX_RECORD];
+    static uint8_t table[CONFORM_MAX_TABLE], file[65536], trail[CONFORM_MAX_RECORD], record[CONFORM_MAX_RECORD];
     uint8_t line[CONFORM_MAX_LINE];
     if (argc != 4) {
         fail("TABLE TRAIL EVENTS");
@@ -72,6 +72,6 @@ int main(int argc, char **argv)
     if (number(line) != objects_len / 4) {
         fail("objects: not as many as the register has");
     }
-    fwrite(trail, 1, trail_len, stdout);
+    fwrite(record, 1, taken("save", conform_save(trail, trail_len, record, sizeof record)), stdout);
     return 0;
 }
