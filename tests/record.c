@@ -1,6 +1,6 @@
 /* record TABLE TRAIL EVENTS: replays the first EVENTS events of a trail file with the C functions and writes the desk record
- * that conform_save gives to standard output. On the way it counts places, activities and objects as include/conform.h says, in every way that is
- * named there. The files are those of examples/: nothing in them is checked here.
+ * that conform_save gives to standard output. On the way it counts places, activities and objects as include/conform.h says,
+ * in every way that is named there. The files are those of examples/: nothing in them is checked here.
  */
 #include "conform.h"
 #include <stdio.h>
