@@ -50,7 +50,7 @@ putDown n r = getD (saves (begun (r .kinds)) (take n (listed r) ++ save 29844 �
 
 -- the calls that take it up and go on
 abbrev pub goesOn : ℕ → R.Row → List Call
-goesOn n r = restore (putDown n r) ∷ drop n (listed r)
+goesOn n r = restore 29844 (putDown n r) ∷ drop n (listed r)
 
 -- the row holds: of the plain run and of the bytes
 abbrev pub Holds : Row → Type 0
