@@ -8,7 +8,7 @@ use native.Mathlib.Omega.{arith}
 use lib.ListN.{length, getD, take, drop, length-take, length-drop}
 use lib.Seq.{take-all}
 use lib.Dec.{leb, eqb}
-use borrow.Author.Tests.{eqb-true, not-false, eq-eqb, le-ltb, le-leb}
+use borrow.Author.Tests.{eqb-true, ltb-false, not-false, eq-eqb, le-ltb, le-leb}
 use Rattle.words.specs.Lists.{pick}
 use Rattle.words.specs.Words.{word, bytesOf, bodiesOf}
 use Rattle.words.proofs.Lists.{is-eq, not-eqb, both-true, both-right, All-append}
@@ -142,6 +142,9 @@ module _ (b : List ℕ) (z : restoreCode b ≡ 0) where
   ends : Ends b 0 40 5 (length b)
   unfolding bodiesOf
   ends = ends-at b 5 0 40 (length b) (not-false _ (passed .1 .1 .0))
+
+  pub restored-le : length b ≤ 29844
+  restored-le = ltb-false 29844 (length b) (passed .1 .0)
 
   pub restored-loads : loadCode (tableIn b) ≡ 0
   restored-loads = is-eq _ _ (passed .1 .1 .1 .0)

@@ -1,8 +1,8 @@
 -- The tests 44 to 47 by the bytes of the bodies behind a record's table, and the sums that the tests of jumps make.
-use Prim.Native.Nat.{ℕ, _+_, _*_, _%_, _≤_, _<_}
+use Prim.Native.Nat.{ℕ, _+_, _*_, _≤_, _<_}
 use mathlib.Core.Bool.{Bool, not}
 use mathlib.Core.Path.{_≡_}
-use mathlib.Core.List.{List, [], _∷_, _++_}
+use mathlib.Core.List.{List, [], _∷_}
 use lib.ListN.{length, getD}
 use lib.Dec.{leb, eqb}
 use Rattle.words.specs.Lists.{pick, any, either, one, sumTo, both}
