@@ -44,8 +44,8 @@ unfolding takeCode restoreCode
 roomy r room z h = first-then (restoreTests r) ((ltb room (length r), 61) ∷ []) z (omega arith) ∙ rw (le-ltb room (length r) h)
 
 -- it is the trail then, whatever trail stood there before
-pub taken-up : (r : List ℕ) → restoreCode r ≡ 0 → (b : List ℕ) (room : ℕ) → length r ≤ room → callBytes b (restore room r) ≡ r
-taken-up r z b room h = rw (eq-eqb (takeCode r room) 0 (roomy r room z h)) refl
+pub restored-trail : (r : List ℕ) → restoreCode r ≡ 0 → (b : List ℕ) (room : ℕ) → length r ≤ room → callBytes b (restore room r) ≡ r
+restored-trail r z b room h = rw (eq-eqb (takeCode r room) 0 (roomy r room z h)) refl
 
 -- Which lists are fair. Restoring the trail's own record is, where it is the last that was written: that of starting too.
 pub fair-own : (b : List ℕ) (room : ℕ) (cs : List Call) → Fair (some b) b cs → Fair (some b) b (restore room b ∷ cs)
@@ -177,7 +177,7 @@ demand-three table ks good ok cs fair = record {
   agrees = subst (λ (d : State). Agrees (netOf table) d p) (sym stored-is) (counts-agree (netOf table) (L table good) ks ok (asked cs));
   records = s .records;
   taken = s .taken;
-  resumed = All-to (λ (r : List ℕ). restoreCode r ≡ 0) (λ (r : List ℕ). (b : List ℕ) (room : ℕ) → length r ≤ room → callBytes b (restore room r) ≡ r) taken-up (saves (plainRecord table (start ks)) cs) (s .taken);
+  resumed = All-to (λ (r : List ℕ). restoreCode r ≡ 0) (λ (r : List ℕ). (b : List ℕ) (room : ℕ) → length r ≤ room → callBytes b (restore room r) ≡ r) restored-trail (saves (plainRecord table (start ks)) cs) (s .taken);
   unchanged = unchanged;
   no-jump = subst (λ (d : State). d .closed ≡ 1 → storedJumps (netOf table) d ≡ 0 ↔ Permitted (netOf table) ks (begins (netOf table) ks) (p .events)) (sym stored-is) fit;
 }

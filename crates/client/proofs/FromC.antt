@@ -10,8 +10,9 @@ use native.Mathlib.Decide.{ℕ-discrete}
 use lib.ListN.{length}
 use lib.Dec.{ltb, eqb}
 use borrow.Author.Tests.{eqb-false, eq-eqb, ne-eqb}
-use Rattle.words.specs.Lists.{pick}
+use Rattle.words.specs.Lists.{pick, All}
 use Rattle.words.specs.Words.{wordsOf}
+use Rattle.words.proofs.Lists.{All-to}
 use Rattle.words.proofs.Refusals.{first-then}
 use Rattle.net.specs.Net.{Net}
 use Rattle.net.specs.Table.{netOf, loadCode}
@@ -27,15 +28,16 @@ use Rattle.events.specs.Answers.{askEvent}
 use Rattle.closing.specs.Answers.{askClose}
 use Rattle.checkpoint.specs.Restore.{restoreTests, restoreCode}
 use Rattle.checkpoint.specs.Take.{takeCode, takeBytes}
-use Rattle.checkpoint.specs.Calls.{asks, saveCode, saveBytes, callBytes, asked}
-use Rattle.checkpoint.specs.Calls as D
+use Rattle.checkpoint.specs.Calls.{saveCode, saveBytes, callBytes, saves, asked}
+use Rattle.checkpoint.specs.Calls as list
 use Rattle.checkpoint.specs.Demand.{plainRecord, plainSaves, Demand3}
 use Rattle.checkpoint.specs.Demand as Demand
 use Rattle.checkpoint.proofs.Demands.{Last, restores-at, last-ask, last-save, back, demand-three}
 use Rattle.answers.specs.Answers.{packed, number, wrote}
 use Rattle.lent.specs.Objects.{objectsIn}
-use Rattle.client.specs.Client.{startAnswer, startLeaves, askAnswer, askLeaves, restoreAnswer, saveAnswer, saveLeaves}
-use Rattle.client.specs.CallList.{Call, event, close, save, restore, answer, taken, wroteBy, next, Given, OfItself, answers, trail, written, Fair, Undamaged, meant, plainAnswers, started, plain, FromC}
+use Rattle.client.specs.Client.{startAnswer, askAnswer, askLeaves, restoreAnswer, saveAnswer, saveLeaves}
+use Rattle.client.specs.CallList.{Call, event, close, save, restore, answer, taken, wroteBy, next, Given, answers, trail, written, Fair, Undamaged, meant, plainAnswers, started, plain, FromC}
+use Rattle.client.proofs.MaxRecordHolds.{room-saves}
 use Rattle.client.proofs.Numbers.{ask-answer, ask-number, ask-few, ask-leaves, save-answer, save-number, save-front, restore-number, restore-front, start-loads, start-registers, start-front}
 
 -- a restore does to the trail what it does in demand 3
@@ -43,7 +45,7 @@ module _ (b r lent : List ℕ) where
   restore-taken : taken b (restore r lent) ≡ eqb (takeCode r (length lent)) 0
   restore-taken = ap (λ (n : ℕ). eqb n 0) (restore-number r (length lent))
 
-  restore-next : next b (restore r lent) ≡ callBytes b (D.restore (length lent) r)
+  restore-next : next b (restore r lent) ≡ callBytes b (list.restore (length lent) r)
   restore-next = rw restore-taken (go (ℕ-discrete (takeCode r (length lent)) 0))
     where
       go : Dec (takeCode r (length lent) ≡ 0) → pick (eqb (takeCode r (length lent)) 0) (wroteBy b (restore r lent)) b ≡ pick (eqb (takeCode r (length lent)) 0) r b
@@ -173,7 +175,7 @@ module _ (table : List ℕ) (good : loadCode table ≡ 0) where
       let c : List ℕ = plainRecord table p in
       let y : restoreCode c ≡ 0 = restores-at table good (stateOf N p) S in
       let g = given c r lent last (f .0) in
-      let e : callBytes c (D.restore (length lent) r) ≡ c = back table good (length lent) r last c l g in
+      let e : callBytes c (list.restore (length lent) r) ≡ c = back table good (length lent) r last c l g in
       let n : next c (restore r lent) ≡ c = restore-next c r lent ∙ e in
       let s : Kept last c p cs = kept cs last p S l (subst (λ (x : List ℕ). Fair last x cs) n (f .1)) in
       let k : Kept last (next c (restore r lent)) p cs = subst (λ (x : List ℕ). Kept last x p cs) (sym n) s in
@@ -185,6 +187,29 @@ module _ (table : List ℕ) (good : loadCode table ≡ 0) where
         records = k .records;
       }
 
+-- Restoring the trail's own record is fair where it is the last that was written, as that of starting is; so is a save followed
+-- at once by a restore of what it wrote.
+module _ (b : List ℕ) (cs : List Call) (f : Fair (some b) b cs) where
+  pub fair-own : (lent : List ℕ) → Fair (some b) b (restore b lent ∷ cs)
+  fair-own lent = (inl refl, subst (λ (x : List ℕ). Fair (some b) x cs) (sym (restore-next b b lent ∙ back-own (eqb (takeCode b (length lent)) 0))) f)
+    where
+      back-own : (t : Bool) → pick t b b ≡ b
+      back-own true = refl
+      back-own false = refl
+
+  pub fair-return : (last : Option (List ℕ)) (lent again : List ℕ) → restoreCode b ≡ 0 → length b ≤ length lent
+      → Fair last b (save lent ∷ restore (wroteBy b (save lent)) again ∷ cs)
+  fair-return last lent again z h =
+      let e = room-saves b (length lent) h in
+      rw (save-front b z lent e, save-number b z (length lent), e) (tt, fair-own again)
+
+-- a record that is the trail once it is restored: in demand 3, and by the function that C calls
+abbrev Returns : List ℕ → Type 0
+Returns r = (b : List ℕ) (room : ℕ) → length r ≤ room → callBytes b (list.restore room r) ≡ r
+
+abbrev Resumes : List ℕ → Type 0
+Resumes r = (b lent : List ℕ) → length r ≤ length lent → next b (restore r lent) ≡ r
+
 -- The hypotheses are that conform_start is taken, and that each restore gets what the demand allows.
 pub from-c : (table objects lent : List ℕ) (cs : List Call) → number (startAnswer table objects (length lent)) ≡ 0 → Fair (some (started table objects lent cs)) (started table objects lent cs) cs → FromC table objects lent cs
 unfolding startRecord
@@ -192,11 +217,12 @@ from-c table objects lent cs z f = record {
   answers-are = rw e (k .answers-are);
   bytes = rw e (k .bytes);
   undamaged = rw e (k .undamaged);
-  records = rw e (k .records);
+  records = w;
+  resumed = subst (λ (rs : List (List ℕ)). All Resumes rs) (D .records ∙ sym w) (All-to Returns Resumes (λ r h b lent f. restore-next b r lent ∙ h b (length lent) f) (saves (startRecord table (wordsOf objects)) (map meant cs)) (D .resumed));
   unchanged = unchanged;
   save-unchanged = save-unchanged;
   restore-unchanged = restore-unchanged;
-  demand = demand-three table (wordsOf objects) good ok (map meant cs) (k .fair);
+  demand = D;
 }
   where
     good : loadCode table ≡ 0
@@ -211,3 +237,9 @@ from-c table objects lent cs z f = record {
     k : Kept table good (some (startRecord table (wordsOf objects))) (startRecord table (wordsOf objects)) (start (wordsOf objects)) cs
     k = kept table good cs (some (startRecord table (wordsOf objects))) (start (wordsOf objects)) (sound-reached (netOf table) (promise table good) (wordsOf objects) ok []) (inr refl)
         (subst (λ (x : List ℕ). Fair (some x) x cs) e f)
+
+    D : Demand3 table (wordsOf objects) (map meant cs)
+    D = demand-three table (wordsOf objects) good ok (map meant cs) (k .fair)
+
+    w : written (started table objects lent cs) cs ≡ plainSaves table (start (wordsOf objects)) (map meant cs)
+    w = rw e (k .records)

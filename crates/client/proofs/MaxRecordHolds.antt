@@ -20,7 +20,7 @@ use Rattle.checkpoint.specs.Take.{takeCode}
 use Rattle.checkpoint.proofs.Restored.{restored-le}
 use Rattle.checkpoint.proofs.Demands.{roomy}
 use Rattle.answers.specs.Answers.{number}
-use Rattle.client.specs.Client.{beginCode, startAnswer, restoreAnswer, saveAnswer}
+use Rattle.client.specs.Client.{beginCode, saveAnswer}
 use Rattle.client.specs.MaxRecord.{MaxRecord}
 use Rattle.client.proofs.Numbers.{start-number, start-le, save-number, restore-number}
 
@@ -64,17 +64,17 @@ begin-fits table objects room h e = go (ℕ-discrete (loadCode table) 0) (ℕ-di
     go (no n) u = omega (arith, code-le table, rw (ne-eqb (loadCode table) 0 n) at e)
 
 -- saving: 41 to 47, or there is room
-module _ (b : List ℕ) (room : ℕ) (h : 29844 ≤ room) where
-  room-saves : length b ≤ room → saveCode b room ≡ 0
-  unfolding saveCode
-  room-saves f = rw (le-ltb room (length b) f)
+pub room-saves : (b : List ℕ) (room : ℕ) → length b ≤ room → saveCode b room ≡ 0
+unfolding saveCode
+room-saves b room h = rw (le-ltb room (length b) h)
 
+module _ (b : List ℕ) (room : ℕ) (h : 29844 ≤ room) where
   saves-fit : number (saveAnswer b room) ≡ 61 → ⊥
   unfolding saveAnswer
   saves-fit e = go (ℕ-discrete (restoreCode b) 0)
     where
       go : Dec (restoreCode b ≡ 0) → ⊥
-      go (yes z) = omega (arith, save-number b z room, room-saves (omega (arith, restored-le b z)))
+      go (yes z) = omega (arith, save-number b z room, room-saves b room (omega (arith, restored-le b z)))
       go (no n) = omega (arith, restore-few b, rw (ne-eqb (restoreCode b) 0 n) at e)
 
 pub max-record : MaxRecord

@@ -11,30 +11,30 @@ use lib.Dec.{ltb, eqb}
 use borrow.Author.Tests.{eq-eqb, ne-eqb}
 use Rattle.words.specs.Lists.{pick, over}
 use Rattle.words.specs.Words.{wordsOf}
-use Rattle.words.proofs.Refusals.{none-apply, none-split, first-zero, first-le, first-then}
-use Rattle.net.specs.Net.{Net, Loaded}
+use Rattle.words.proofs.Refusals.{none-apply, none-split, first-zero, first-le}
+use Rattle.net.specs.Net.{Loaded}
 use Rattle.net.specs.Table.{netOf, loadCode}
 use Rattle.net.proofs.Promise.{promise, table-size}
 use Rattle.loader.proofs.LoadLaws.{code-le}
 use Rattle.replay.specs.Plain.{Ask, event, close, eventTests, closeTests, registerTests, registerCode}
-use Rattle.replay.specs.State.{State, startState, answerS}
+use Rattle.replay.specs.State.{startState}
 use Rattle.replay.specs.Calls.{netAt, stateAt, askCode, askBytes, startTests, startRecord, startCode}
 use Rattle.replay.proofs.Accepted.{registered}
 use Rattle.replay.proofs.Keep.{sound-start}
 use Rattle.replay.proofs.Encode.{encode-le}
-use Rattle.checkpoint.specs.Restore.{restoreTests, restoreCode, restoreSecond}
+use Rattle.checkpoint.specs.Restore.{restoreCode}
 use Rattle.checkpoint.specs.Calls.{saveTests, saveCode, saveBytes}
 use Rattle.checkpoint.specs.Take.{takeTests, takeCode, takeBytes}
+use Rattle.resuming.proofs.Lent.{saved-front, restored-front}
 use Rattle.answers.specs.Answers.{packed, number, second, wrote}
 use Rattle.client.specs.Client.{beginCode, startAnswer, startLeaves, askAnswer, askLeaves, restoreAnswer, saveAnswer, saveLeaves}
 
 number-is : (n s : ℕ) → n ≤ 61 → number (packed n s) ≡ n
 number-is n s h = omega arith
 
--- what was written over the front of lent bytes
-front-over : (x lent : List ℕ) → take (second (packed 0 (length x))) (over x lent) ≡ x
-front-over x lent = let e : second (packed 0 (length x)) ≡ length x = omega arith in
-    ap (λ (n : ℕ). take n (over x lent)) e ∙ take-append-seam x (drop (length x) lent)
+-- the front of lent bytes that an answer cuts out
+front-is : (n : ℕ) (lent : List ℕ) → take (second (packed 0 n)) lent ≡ take n lent
+front-is n lent = let e : second (packed 0 n) ≡ n = omega arith in ap (λ (n : ℕ). take n lent) e
 
 -- an event, a close
 ask-le : (b : List ℕ) (q : Ask) → askCode b q ≤ 31
@@ -71,8 +71,8 @@ module _ (b : List ℕ) (z : restoreCode b ≡ 0) where
 
   -- the record that a save wrote is the trail
   pub save-front : (lent : List ℕ) → saveCode b (length lent) ≡ 0 → take (second (saveAnswer b (length lent))) (saveLeaves b lent) ≡ b
-  unfolding saveLeaves saveBytes
-  save-front lent e = rw (save-answer (length lent), e, eq-eqb (restoreCode b) 0 z) (front-over b lent)
+  unfolding saveLeaves
+  save-front lent e = rw (save-answer (length lent), e, eq-eqb (restoreCode b) 0 z) (front-is (length b) (saveBytes b lent) ∙ saved-front b lent e)
 
 -- restoring any bytes
 module _ (r : List ℕ) where
@@ -86,8 +86,8 @@ module _ (r : List ℕ) where
 
   -- what a restore wrote is the record
   pub restore-front : (lent : List ℕ) → takeCode r (length lent) ≡ 0 → take (second (restoreAnswer r (length lent))) (takeBytes r lent) ≡ r
-  unfolding restoreAnswer takeBytes
-  restore-front lent e = rw e (front-over r lent)
+  unfolding restoreAnswer
+  restore-front lent e = rw e (front-is (length r) (takeBytes r lent) ∙ restored-front r lent e)
 
 -- starting
 module _ (table objects : List ℕ) (room : ℕ) where
@@ -138,4 +138,4 @@ module _ (table objects lent : List ℕ) (z : number (startAnswer table objects 
 
   pub start-front : take (second (startAnswer table objects (length lent))) (startLeaves table objects lent) ≡ startRecord table (wordsOf objects)
   unfolding startAnswer startLeaves
-  start-front = rw begun (front-over (startRecord table (wordsOf objects)) lent)
+  start-front = let R : List ℕ = startRecord table (wordsOf objects) in rw begun (front-is (length R) (over R lent) ∙ take-append-seam R (drop (length R) lent))

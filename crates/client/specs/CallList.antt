@@ -1,6 +1,6 @@
 -- Demand 3 of the functions that C calls: any list of calls on the trail that conform_start wrote. What a call answers and
 -- leaves is said by the definitions of its contract.
-use Prim.Native.Nat.{ℕ, _<_}
+use Prim.Native.Nat.{ℕ, _≤_, _<_}
 use mathlib.Core.Bool.{Bool, false}
 use mathlib.Core.Logic.{_⊎_}
 use mathlib.Core.Option.{Option, none, some}
@@ -8,7 +8,7 @@ use mathlib.Core.Path.{_≡_}
 use mathlib.Core.List.{List, [], _∷_, map}
 use lib.ListN.{length, take}
 use lib.Dec.{eqb}
-use Rattle.words.specs.Lists.{pick}
+use Rattle.words.specs.Lists.{pick, All}
 use Rattle.words.specs.Words.{wordsOf}
 use Rattle.net.specs.Table.{netOf}
 use Rattle.replay.specs.Plain.{Plain, start, run}
@@ -17,7 +17,7 @@ use Rattle.events.specs.Answers.{askEvent}
 use Rattle.closing.specs.Answers.{askClose}
 use Rattle.checkpoint.specs.Take.{takeBytes}
 use Rattle.checkpoint.specs.Calls.{asks, saveCode, asked}
-use Rattle.checkpoint.specs.Calls as D
+use Rattle.checkpoint.specs.Calls as list
 use Rattle.checkpoint.specs.Demand.{plainRecord, plainSaves, Demand3}
 use Rattle.answers.specs.Answers.{packed, number, second, wrote}
 use Rattle.lent.specs.Objects.{objectsIn}
@@ -106,11 +106,11 @@ Undamaged b [] = Unit
 Undamaged b (c ∷ cs) = (OfItself b c → (number (answer b c) < 41) ⊎ (47 < number (answer b c))) × Undamaged (next b c) cs
 
 -- the call as demand 3 has it
-abbrev pub meant : Call → D.Call
+abbrev pub meant : Call → list.Call
 meant (event act objects) = asks (askEvent act (objectsIn objects))
 meant close = asks askClose
-meant (save lent) = D.save (length lent)
-meant (restore r lent) = D.restore (length lent) r
+meant (save lent) = list.save (length lent)
+meant (restore r lent) = list.restore (length lent) r
 
 -- what the plain run p of a table answers: to a save, whether its record fits, and with how many bytes
 module _ (table : List ℕ) where
@@ -142,6 +142,8 @@ module _ (table objects lent : List ℕ) (cs : List Call) where
     pub undamaged : Undamaged started cs
     -- each record written is the plain run's at that point
     pub records : written started cs ≡ plainSaves table (start (wordsOf objects)) (map meant cs)
+    -- restored with room for it, it is the trail that wrote it, whatever trail stood there before
+    pub resumed : All (λ (r : List ℕ). (b lent : List ℕ) → length r ≤ length lent → next b (restore r lent) ≡ r) (written started cs)
     -- refused calls change nothing, neither of the trail nor of what they are lent
     pub unchanged : (b : List ℕ) (c : Call) → taken b c ≡ false → next b c ≡ b
     pub save-unchanged : (b lent : List ℕ) → taken b (save lent) ≡ false → saveLeaves b lent ≡ lent
