@@ -36,7 +36,7 @@ use Rattle.checkpoint.proofs.Demands.{Last, restores-at, last-ask, last-save, b
 use Rattle.answers.specs.Answers.{packed, number, wrote}
 use Rattle.lent.specs.Objects.{objectsIn}
 use Rattle.client.specs.Client.{startAnswer, askAnswer, askLeaves, restoreAnswer, saveAnswer, saveLeaves}
-use Rattle.client.specs.CallList.{Call, event, close, save, restore, answer, taken, wroteBy, next, Given, answers, trail, written, Fair, Undamaged, meant, plainAnswers, started, plain, FromC}
+use Rattle.client.specs.CallList.{Call, event, close, save, restore, answer, taken, wroteBy, next, Given, answers, trail, written, Fair, Undamaged, meant, plainAnswers, startedBy, FromC}
 use Rattle.client.proofs.MaxRecordHolds.{room-saves}
 use Rattle.client.proofs.Numbers.{ask-answer, ask-number, ask-few, ask-leaves, save-answer, save-number, save-front, restore-number, restore-front, start-loads, start-registers, start-front}
 
@@ -211,7 +211,7 @@ abbrev Resumes : List ℕ → Type 0
 Resumes r = (b lent : List ℕ) → length r ≤ length lent → next b (restore r lent) ≡ r
 
 -- The hypotheses are that conform_start is taken, and that each restore gets what the demand allows.
-pub from-c : (table objects lent : List ℕ) (cs : List Call) → number (startAnswer table objects (length lent)) ≡ 0 → Fair (some (started table objects lent cs)) (started table objects lent cs) cs → FromC table objects lent cs
+pub from-c : (table objects lent : List ℕ) (cs : List Call) → number (startAnswer table objects (length lent)) ≡ 0 → Fair (some (startedBy table objects lent)) (startedBy table objects lent) cs → FromC table objects lent cs
 unfolding startRecord
 from-c table objects lent cs z f = record {
   answers-are = rw e (k .answers-are);
@@ -231,7 +231,7 @@ from-c table objects lent cs z f = record {
     ok : registerCode (netOf table) (wordsOf objects) ≡ 0
     ok = start-registers table objects lent z
 
-    e : started table objects lent cs ≡ startRecord table (wordsOf objects)
+    e : startedBy table objects lent ≡ startRecord table (wordsOf objects)
     e = start-front table objects lent z
 
     k : Kept table good (some (startRecord table (wordsOf objects))) (startRecord table (wordsOf objects)) (start (wordsOf objects)) cs
@@ -241,5 +241,5 @@ from-c table objects lent cs z f = record {
     D : Demand3 table (wordsOf objects) (map meant cs)
     D = demand-three table (wordsOf objects) good ok (map meant cs) (k .fair)
 
-    w : written (started table objects lent cs) cs ≡ plainSaves table (start (wordsOf objects)) (map meant cs)
+    w : written (startedBy table objects lent) cs ≡ plainSaves table (start (wordsOf objects)) (map meant cs)
     w = rw e (k .records)

@@ -1,6 +1,5 @@
 -- No record is longer than CONFORM_MAX_RECORD. Assumes nothing.
 use Prim.Native.Nat.{ℕ, _%_, _≤_}
-use mathlib.Core.Bool.{Bool}
 use mathlib.Core.Path.{_≡_, sym, _∙_}
 use mathlib.Core.List.{List, [], _∷_}
 use native.Mathlib.Omega.{arith}
@@ -40,6 +39,11 @@ module _ (r : List ℕ) (room : ℕ) (h : 29844 ≤ room) where
 
 -- starting: the table's numbers, 11 and 12, or there is room
 module _ (table ks : List ℕ) (room : ℕ) (h : 29844 ≤ room) (z : loadCode table ≡ 0) where
+  code-taken : registerCode (netOf table) ks ≡ 0 → startCode table ks room ≡ 0
+  unfolding startCode
+  code-taken r = first-then (registerTests (netOf table) ks) ((ltb room (length (startRecord table ks)), 61) ∷ []) r (omega arith)
+      ∙ rw (le-ltb room (length (startRecord table ks)) (omega (arith, start-le table ks z r)))
+
   register-few : registerCode (netOf table) ks ≤ 12
   register-few = first-le 12 (registerTests (netOf table) ks) (omega arith)
 
@@ -47,12 +51,13 @@ module _ (table ks : List ℕ) (room : ℕ) (h : 29844 ≤ room) (z : loadCode t
   unfolding startCode
   code-fits e = go (ℕ-discrete (registerCode (netOf table) ks) 0)
     where
-      last : List (Bool × ℕ)
-      last = (ltb room (length (startRecord table ks)), 61) ∷ []
-
       go : Dec (registerCode (netOf table) ks ≡ 0) → ⊥
-      go (yes r) = omega (arith, first-then (registerTests (netOf table) ks) last r (omega arith), rw (le-ltb room (length (startRecord table ks)) (omega (arith, start-le table ks z r))) at e)
-      go (no n) = omega (arith, first-stays (registerTests (netOf table) ks) last n, register-few)
+      go (yes r) = omega (arith, code-taken r)
+      go (no n) = omega (arith, first-stays (registerTests (netOf table) ks) ((ltb room (length (startRecord table ks)), 61) ∷ []) n, register-few)
+
+begin-taken : (table objects : List ℕ) (room : ℕ) → loadCode table ≡ 0 → length objects % 4 ≡ 0 → registerCode (netOf table) (wordsOf objects) ≡ 0 → 29844 ≤ room → beginCode table objects room ≡ 0
+unfolding beginCode
+begin-taken table objects room z f r h = rw (eq-eqb (loadCode table) 0 z, eq-eqb (length objects % 4) 0 f) (code-taken table (wordsOf objects) room h z r)
 
 begin-fits : (table objects : List ℕ) (room : ℕ) → 29844 ≤ room → beginCode table objects room ≡ 61 → ⊥
 unfolding beginCode
@@ -81,6 +86,7 @@ pub max-record : MaxRecord
 max-record = record {
   start-le = start-le;
   trail-le = restored-le;
+  starts = λ table objects room z f r h. start-number table objects room ∙ begin-taken table objects room z f r h;
   start-fits = λ table objects room h e. begin-fits table objects room h (sym (start-number table objects room) ∙ e);
   save-fits = saves-fit;
   restore-fits = λ r room h e. take-fits r room h (sym (restore-number r room) ∙ e);

@@ -124,11 +124,14 @@ module _ (table : List ℕ) where
   plainAnswers p [] = []
   plainAnswers p (c ∷ cs) = plainAnswer p c ∷ plainAnswers (run (netOf table) p (asked (meant c ∷ []))) cs
 
--- the table's bytes, the register's, the bytes lent to conform_start, and the list
+-- the trail that conform_start wrote: the bytes of the table, of the register, and those that it was lent
+abbrev pub startedBy : List ℕ → List ℕ → List ℕ → List ℕ
+startedBy table objects lent = front (startAnswer table objects (length lent)) (startLeaves table objects lent)
+
+-- a list of calls on it
 module _ (table objects lent : List ℕ) (cs : List Call) where
-  -- the trail that it wrote
   abbrev pub started : List ℕ
-  started = front (startAnswer table objects (length lent)) (startLeaves table objects lent)
+  started = startedBy table objects lent
 
   -- the plain run of the list's events and closes alone, in one go
   abbrev pub plain : Plain
