@@ -28,7 +28,7 @@ use Rattle.replay.proofs.Theorems.{sound-reached, counts-agree, no-jump-iff-per
 use Rattle.checkpoint.specs.Restore.{restoreTests, restoreCode}
 use Rattle.checkpoint.specs.Take.{takeCode}
 use Rattle.checkpoint.specs.Calls.{Call, asks, save, restore, saveCode, callCode, callBytes, calls, told, saves, asked}
-use Rattle.checkpoint.specs.Demand.{Fair, plainRecord, plainSaves, plain, Demand3}
+use Rattle.checkpoint.specs.Demand.{Fair, FairList, plainRecord, plainSaves, plain, Demand3}
 use Rattle.checkpoint.proofs.Restored.{restore-intact, intact-restores, stays-intact, table-stays, net-stays}
 
 -- a refused call changes nothing
@@ -71,7 +71,10 @@ fair-alone [] b last = tt
 fair-alone (q ∷ qs) b last = fair-alone qs (askBytes b q) _
 
 -- A list that restores the record that starting wrote, feeds qs, saves, restores and feeds rs is one that demand 3 speaks of.
-module _ (b : List ℕ) (qs rs : List Ask) (room : ℕ) where
+module _ (table ks : List ℕ) (qs rs : List Ask) (room : ℕ) where
+  abbrev b : List ℕ
+  b = startRecord table ks
+
   abbrev halfway : List ℕ
   halfway = calls b (map asks qs)
 
@@ -81,7 +84,7 @@ module _ (b : List ℕ) (qs rs : List Ask) (room : ℕ) where
   abbrev resumes : List Call
   resumes = save room ∷ restore room halfway ∷ goesOn
 
-  pub fair-resumed : length halfway ≤ room → Fair (some b) b (restore room b ∷ map asks qs ++ resumes)
+  pub fair-resumed : length halfway ≤ room → FairList table ks (restore room b ∷ map asks qs ++ resumes)
   fair-resumed h =
       fair-own b room (map asks qs ++ resumes)
       (fair-asks qs b (some b) resumes (λ last. fair-return halfway last room room goesOn h (fair-alone rs halfway (some halfway))))
@@ -168,7 +171,7 @@ module _ (table : List ℕ) (good : loadCode table ≡ 0) where
       let s : Same (callBytes b (restore room r)) p cs = subst (λ (b : List ℕ). Same b p cs) (sym e) (same cs last p S l (subst (λ (b : List ℕ). Fair last b cs) e (f .1))) in
       record { bytes = s .bytes; answers-are = s .answers-are; records = s .records; taken = s .taken }
 
-pub demand-three : (table ks : List ℕ) → loadCode table ≡ 0 → registerCode (netOf table) ks ≡ 0 → (cs : List Call) → Fair (some (startRecord table ks)) (startRecord table ks) cs → Demand3 table ks cs
+pub demand-three : (table ks : List ℕ) → loadCode table ≡ 0 → registerCode (netOf table) ks ≡ 0 → (cs : List Call) → FairList table ks cs → Demand3 table ks cs
 unfolding startRecord
 demand-three table ks good ok cs fair = record {
   answers = s .answers-are;

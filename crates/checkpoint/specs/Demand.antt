@@ -19,7 +19,7 @@ use Rattle.checkpoint.specs.Take.{takeCode}
 use Rattle.checkpoint.specs.Calls.{Call, asks, save, restore, saveCode, callCode, callBytes, calls, told, saves, asked}
 
 -- A restore gets the record that the trail last wrote, with no event or close accepted since, or it is refused.
--- `last` is that record, b the trail; starting writes a record too.
+-- `last` is that record, b the trail.
 abbrev pub Fair : Option (List ℕ) → List ℕ → List Call → Type 0
 Fair last b [] = Unit
 Fair last b (asks q ∷ cs) = Fair (pick (eqb (askCode b q) 0) none last) (callBytes b (asks q)) cs
@@ -40,10 +40,15 @@ plainSaves table p (restore room r ∷ cs) = plainSaves table p cs
 
 -- a table, a register, a list of calls
 module _ (table ks : List ℕ) (cs : List Call) where
-  -- the freshly started trail, the trail after the list, and what it stores
+  -- the freshly started trail
   abbrev pub fresh : List ℕ
   fresh = startRecord table ks
 
+  -- what the list's restores may get; starting wrote the first record
+  abbrev pub FairList : Type 0
+  FairList = Fair (some fresh) fresh cs
+
+  -- the trail after the list, and what it stores
   abbrev pub trail : List ℕ
   trail = calls fresh cs
 

@@ -36,7 +36,7 @@ use Rattle.checkpoint.proofs.Demands.{Last, restores-at, last-ask, last-save, b
 use Rattle.answers.specs.Answers.{packed, number, wrote}
 use Rattle.lent.specs.Objects.{objectsIn}
 use Rattle.client.specs.Client.{startAnswer, askAnswer, askLeaves, restoreAnswer, saveAnswer, saveLeaves}
-use Rattle.client.specs.CallList.{Call, event, close, save, restore, answer, taken, wroteBy, next, Given, answers, trail, written, Fair, Undamaged, meant, plainAnswers, startedBy, FromC}
+use Rattle.client.specs.CallList.{Call, event, close, save, restore, answer, taken, wroteBy, next, Given, answers, trail, written, Fair, Undamaged, meant, plainAnswers, startedBy, FairList, FromC}
 use Rattle.client.proofs.MaxRecordHolds.{room-saves}
 use Rattle.client.proofs.Numbers.{ask-answer, ask-number, ask-few, ask-leaves, save-answer, save-number, save-front, restore-number, restore-front, start-loads, start-registers, start-front}
 
@@ -211,7 +211,7 @@ abbrev Resumes : List ℕ → Type 0
 Resumes r = (b lent : List ℕ) → length r ≤ length lent → next b (restore r lent) ≡ r
 
 -- The hypotheses are that conform_start is taken, and that each restore gets what the demand allows.
-pub from-c : (table objects lent : List ℕ) (cs : List Call) → number (startAnswer table objects (length lent)) ≡ 0 → Fair (some (startedBy table objects lent)) (startedBy table objects lent) cs → FromC table objects lent cs
+pub from-c : (table objects lent : List ℕ) (cs : List Call) → number (startAnswer table objects (length lent)) ≡ 0 → FairList table objects lent cs → FromC table objects lent cs
 unfolding startRecord
 from-c table objects lent cs z f = record {
   answers-are = rw e (k .answers-are);

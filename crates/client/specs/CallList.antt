@@ -133,6 +133,10 @@ module _ (table objects lent : List ℕ) (cs : List Call) where
   abbrev pub started : List ℕ
   started = startedBy table objects lent
 
+  -- what the list's restores may get; conform_start wrote the first record
+  abbrev pub FairList : Type 0
+  FairList = Fair (some started) started cs
+
   -- the plain run of the list's events and closes alone, in one go
   abbrev pub plain : Plain
   plain = run (netOf table) (start (wordsOf objects)) (asked (map meant cs))
