@@ -14,7 +14,8 @@ use Rattle.words.specs.Words.{word, bytesOf, bodiesOf}
 use Rattle.words.proofs.Lists.{is-eq, not-eqb, both-true, both-right, All-append}
 use Rattle.words.proofs.Refusals.{None, none-apply, first-zero, none-split}
 use Rattle.net.specs.Net.{Net, Loaded}
-use Rattle.net.specs.Table.{netOf, loadTests, loadCode}
+use Rattle.net.specs.Table.{netOf, loadCode}
+use Rattle.net.proofs.Promise.{table-size}
 use Rattle.replay.specs.Plain.{Ask}
 use Rattle.replay.specs.State.{answerS, acceptS, askS}
 use Rattle.replay.specs.Sound.{Sound}
@@ -25,11 +26,6 @@ use Rattle.replay.proofs.Keep.{sound-ask}
 use Rattle.checkpoint.specs.Restore.{beginsClosed, tests44, tests45, tests46, tests47, restoreTests, restoreCode}
 use Rattle.checkpoint.proofs.Spans.{Ends, ends-at, at-ends, words-from-length, words-from-bytes, words-from-read, words-head, glue, interleave-parted, parted-length}
 use Rattle.checkpoint.proofs.Judged.{sound-registered, sound45, sound46, sound47, judged-sound}
-
--- a table that loads has at most 4,704 bytes
-pub table-le : (b : List ℕ) → loadCode b ≡ 0 → length b ≤ 4704
-unfolding loadCode
-table-le b z = ltb-false _ _ (none-apply (loadTests b) (omega arith) z .1 .0)
 
 -- the contents of a record that is taken up, and of its counts and jumps bodies the lengths
 record Fitted (b : List ℕ) (N : Net) : Type 0 where
@@ -121,9 +117,15 @@ module _ (b : List ℕ) (N : Net) (F : Fitted b N) where
       all = glue b 0 40 _ (glue b (word b 0) (word b 4) _ (glue b (word b 8) (word b 12) _ (glue b (word b 16) (word b 20) _ (glue b (word b 24) (word b 28) _
           (take-all (word b 36) (drop (word b 32) b) (simp length-drop (omega arith)) ∙ to (F .at32)) ∙ to (F .at24)) ∙ to (F .at16)) ∙ to (F .at8)) ∙ to (F .at0))
 
--- the tests of one record's bodies behind its register
+-- whether the counts body of a record begins with a 1, and the tests of its bodies
+abbrev closedIn : List ℕ → Bool
+closedIn b = beginsClosed (word b 28) (word b (word b 24))
+
+abbrev own44 : List ℕ → List (Bool × ℕ)
+own44 b = tests44 (netAt b) (stateAt b) (word b 12)
+
 abbrev own45 : List ℕ → List (Bool × ℕ)
-own45 b = tests45 (netAt b) (stateAt b) (word b 20) (beginsClosed b)
+own45 b = tests45 (netAt b) (stateAt b) (word b 20) (closedIn b)
 
 abbrev own46 : List ℕ → List (Bool × ℕ)
 own46 b = tests46 (netAt b) (stateAt b) (word b 28)
@@ -141,10 +143,13 @@ module _ (b : List ℕ) (z : restoreCode b ≡ 0) where
   unfolding bodiesOf
   ends = ends-at b 5 0 40 (length b) (not-false _ (passed .1 .1 .0))
 
+  pub restored-le : length b ≤ 29844
+  restored-le = ltb-false 29844 (length b) (passed .1 .0)
+
   pub restored-loads : loadCode (tableIn b) ≡ 0
   restored-loads = is-eq _ _ (passed .1 .1 .1 .0)
 
-  passed44 : None (tests44 b)
+  passed44 : None (own44 b)
   passed44 = (passed .1 .1 .1 .1 .0, (passed .1 .1 .1 .1 .1 .0, tt))
 
   passed45 : None (own45 b) × None (own46 b ++ own47 b)
@@ -177,7 +182,7 @@ module _ (b : List ℕ) (z : restoreCode b ≡ 0) where
   unfolding stateAt
   restored-sound =
       let F = fitted in
-      judged-sound (netAt b) (stateAt b) (word b 20) (word b 28) (word b 36) (beginsClosed b) (is-eq _ _ (passed44 .1 .0)) (passed45 .0) (passed46 .0) (passed46 .1)
+      judged-sound (netAt b) (stateAt b) (word b 20) (word b 28) (word b 36) (closedIn b) (is-eq _ _ (passed44 .1 .0)) (passed45 .0) (passed46 .0) (passed46 .1)
       (omega (arith, places-length b (netAt b) F))
       (λ c. both-true _ _ (le-leb 4 (word b 28) (omega arith)) (eq-eqb (word b (word b 24)) 1 (sym (closed-is b (netAt b) F) ∙ c)))
       (rows-length b (netAt b) F .0) (rows-length b (netAt b) F .1) (pairs-length b (netAt b) F)
@@ -185,7 +190,7 @@ module _ (b : List ℕ) (z : restoreCode b ≡ 0) where
 -- What is taken up is sound, and written again at once it has the same bytes.
 pub restore-intact : (b : List ℕ) → ((i : ℕ) → getD b i 0 < 256) → restoreCode b ≡ 0 → (loadCode (tableIn b) ≡ 0) × Intact (netAt b) b
 restore-intact b small z =
-    (restored-loads b z, record { bytes = sym (again b (netAt b) (fitted b z) small); sound = restored-sound b z; table-size = table-le (tableIn b) (restored-loads b z) })
+    (restored-loads b z, record { bytes = sym (again b (netAt b) (fitted b z) small); sound = restored-sound b z; table-size = table-size (tableIn b) (restored-loads b z) .1 })
 
 none-join : (xs ys : List (Bool × ℕ)) → None xs → None ys → None (xs ++ ys)
 none-join = All-append (λ (t : Bool × ℕ). t .0 ≡ false)
@@ -210,7 +215,7 @@ module _ (b : List ℕ) (L : Loaded (netAt b)) (I : Intact (netAt b) b) where
   counts-fit : length (counts (stateAt b)) ≡ countsSize (netAt b)
   counts-fit = counts-size (netAt b) (stateAt b) stored-sound
 
-  begins : beginsClosed b ≡ true → stateAt b .closed ≡ 1
+  begins : closedIn b ≡ true → stateAt b .closed ≡ 1
   begins e =
       let X = placed in
       ap (λ (l : List ℕ). getD l 0 0) (sym (X .counts-are)) ∙ words-head b (countsAt (tableIn b) (stateAt b)) (length (counts (stateAt b))) (omega arith) (omega arith)
@@ -232,7 +237,7 @@ module _ (b : List ℕ) (L : Loaded (netAt b)) (I : Intact (netAt b) b) where
                 not-eqb (word b 12 % 4) 0 (omega arith),
                 (
                   not-eqb _ _ (sound-registered (netAt b) (stateAt b) S),
-                  none-join (own45 b) (own46 b ++ own47 b) (sound45 (netAt b) (stateAt b) S (word b 20) (beginsClosed b) p begins)
+                  none-join (own45 b) (own46 b ++ own47 b) (sound45 (netAt b) (stateAt b) S (word b 20) (closedIn b) p begins)
                       (none-join (own46 b) (own47 b) (sound46 (netAt b) (stateAt b) S (word b 28) (omega (arith, counts-fit)))
                       (sound47 (netAt b) (stateAt b) S (word b 36) (omega (arith, S .pairs-size)))),
                 ),

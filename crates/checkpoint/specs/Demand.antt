@@ -1,9 +1,10 @@
 -- Demand 3: any list of calls on a freshly started trail leaves what the plain run of its events and closes leaves.
-use Prim.Native.Nat.{ℕ}
+use Prim.Native.Nat.{ℕ, _≤_}
 use mathlib.Core.Logic.{_⊎_, _↔_}
 use mathlib.Core.Option.{Option, none, some}
 use mathlib.Core.Path.{_≡_}
 use mathlib.Core.List.{List, [], _∷_}
+use lib.ListN.{length}
 use lib.Dec.{eqb}
 use Rattle.words.specs.Lists.{pick, All}
 use Rattle.net.specs.Table.{netOf}
@@ -14,15 +15,16 @@ use Rattle.replay.specs.Record.{encode, tableIn}
 use Rattle.replay.specs.Claims.{Agrees}
 use Rattle.replay.specs.Calls.{stateAt, askCode, startRecord}
 use Rattle.checkpoint.specs.Restore.{restoreCode}
+use Rattle.checkpoint.specs.Take.{takeCode}
 use Rattle.checkpoint.specs.Calls.{Call, asks, save, restore, saveCode, callCode, callBytes, calls, told, saves, asked}
 
--- A restore gets the record that the trail last wrote, with no event or close accepted since, or bytes that are refused.
+-- A restore gets the record that the trail last wrote, with no event or close accepted since, or it is refused.
 -- `last` is that record, b the trail.
 abbrev pub Fair : Option (List ℕ) → List ℕ → List Call → Type 0
 Fair last b [] = Unit
 Fair last b (asks q ∷ cs) = Fair (pick (eqb (askCode b q) 0) none last) (callBytes b (asks q)) cs
 Fair last b (save room ∷ cs) = Fair (pick (eqb (saveCode b room) 0) (some b) last) b cs
-Fair last b (restore r ∷ cs) = ((last ≡ some r) ⊎ (restoreCode r ≡ 0 → ⊥)) × Fair last (callBytes b (restore r)) cs
+Fair last b (restore room r ∷ cs) = ((last ≡ some r) ⊎ (takeCode r room ≡ 0 → ⊥)) × Fair last (callBytes b (restore room r)) cs
 
 -- the checkpoint (desk record) of a plain run: of its table, register and state
 abbrev pub plainRecord : List ℕ → Plain → List ℕ
@@ -34,14 +36,19 @@ plainSaves table p [] = []
 plainSaves table p (asks q ∷ cs) = plainSaves table (ask (netOf table) p q) cs
 plainSaves table p (save room ∷ cs) =
     pick (eqb (saveCode (plainRecord table p) room) 0) (plainRecord table p ∷ plainSaves table p cs) (plainSaves table p cs)
-plainSaves table p (restore r ∷ cs) = plainSaves table p cs
+plainSaves table p (restore room r ∷ cs) = plainSaves table p cs
 
 -- a table, a register, a list of calls
 module _ (table ks : List ℕ) (cs : List Call) where
-  -- the freshly started trail, the trail after the list, and what it stores
+  -- the freshly started trail
   abbrev pub fresh : List ℕ
   fresh = startRecord table ks
 
+  -- what the list's restores may get; starting wrote the first record
+  abbrev pub FairList : Type 0
+  FairList = Fair (some fresh) fresh cs
+
+  -- the trail after the list, and what it stores
   abbrev pub trail : List ℕ
   trail = calls fresh cs
 
@@ -63,8 +70,8 @@ module _ (table ks : List ℕ) (cs : List Call) where
     -- each record written is the plain run's at that point, and none of 41 to 47 applies to it
     pub records : saves fresh cs ≡ plainSaves table (start ks) cs
     pub taken : All (λ (r : List ℕ). restoreCode r ≡ 0) (saves fresh cs)
-    -- taken up, it is the trail that wrote it, whatever trail stood there before
-    pub resumed : All (λ (r : List ℕ). (b : List ℕ) → callBytes b (restore r) ≡ r) (saves fresh cs)
+    -- taken up with room for it, it is the trail that wrote it, whatever trail stood there before
+    pub resumed : All (λ (r : List ℕ). (b : List ℕ) (room : ℕ) → length r ≤ room → callBytes b (restore room r) ≡ r) (saves fresh cs)
     -- refused calls change nothing
     pub unchanged : (b : List ℕ) (c : Call) → (callCode b c ≡ 0 → ⊥) → callBytes b c ≡ b
     -- once closed, no jump exactly when the accepted events are a permitted run

@@ -1,4 +1,4 @@
--- Restoring (taking up) a checkpoint (desk record): the refusals 41 to 47, and the trail that is taken up.
+-- Restoring (taking up) a checkpoint (desk record): the refusals 41 to 47, and the second number of 43 and 44.
 use Prim.Native.Nat.{ℕ, _*_, _%_}
 use mathlib.Core.Bool.{Bool, not}
 use mathlib.Core.List.{List, [], _∷_, _++_}
@@ -14,7 +14,7 @@ use Rattle.replay.specs.State.{State, storedConsumed, storedPair, storedJumpsIn
 use Rattle.replay.specs.Record.{tableIn, countsSize}
 use Rattle.replay.specs.Calls.{netAt, stateAt}
 
--- 41: the length. 42: the layout. 43: the table. 44: the register, of whole rows, is refused.
+-- 41: the length. 42: the layout. 43: the table is refused.
 abbrev pub tests41 : List ℕ → List (Bool × ℕ)
 tests41 b = (ltb (length b) 40, 41) ∷ (ltb 29844 (length b), 41) ∷ []
 
@@ -24,12 +24,9 @@ tests42 b = (not (endsAt (length b) (bodiesOf 5 b)), 42) ∷ []
 abbrev pub tests43 : List ℕ → List (Bool × ℕ)
 tests43 b = (not (eqb (loadCode (tableIn b)) 0), 43) ∷ []
 
-abbrev pub tests44 : List ℕ → List (Bool × ℕ)
-tests44 b = (not (eqb (word b 12 % 4) 0), 44) ∷ (not (eqb (registerCode (netAt b) (stateAt b .kinds)) 0), 44) ∷ []
-
--- the counts body begins with a 1
-abbrev pub beginsClosed : List ℕ → Bool
-beginsClosed b = both (leb 4 (word b 28)) (eqb (word b (word b 24)) 1)
+-- the counts body, of `size` bytes with `flag` as its first number, begins with a 1
+abbrev pub beginsClosed : ℕ → ℕ → Bool
+beginsClosed size flag = both (leb 4 size) (eqb flag 1)
 
 -- no jump can lead from place x to place y: they are one place, or of different kinds
 abbrev pub apart : Net → ℕ → ℕ → Bool
@@ -37,6 +34,14 @@ apart N x y = either (eqb x y ∷ not (eqb (N .kindOf x) (N .kindOf y)) ∷ [])
 
 -- the net, the numbers of the bodies, and a body's length in bytes
 module _ (N : Net) (d : State) (size : ℕ) where
+  -- 44: the register's length is no multiple of 4; the register is refused
+  abbrev pub tests44 : List (Bool × ℕ)
+  tests44 = (not (eqb (size % 4) 0), 44) ∷ (not (eqb (registerCode N (d .kinds)) 0), 44) ∷ []
+
+  -- the second number of 44, where `code` is the number: the register's, or 0 where its length is no multiple of 4
+  abbrev pub second44 : ℕ → ℕ
+  second44 code = pick (both (eqb code 44) (eqb (size % 4) 0)) (registerCode N (d .kinds)) 0
+
   -- 45: one row for each object; a place unknown; of another kind; an object off its sink in a closed trail
   abbrev pub tests45 : Bool → List (Bool × ℕ)
   tests45 closed =
@@ -67,23 +72,22 @@ module _ (N : Net) (d : State) (size : ℕ) where
       ∷ (anyTo (N .places) (λ (q : ℕ). ltb (storedConsumed N d q) (storedJumpsIn N d q)), 47)
       ∷ []
 
+-- 44 to 47: the lengths of the bodies of register, positions, counts and jumps, and whether the counts begin with a 1
+abbrev pub bodyTests : Net → State → ℕ → ℕ → ℕ → ℕ → Bool → List (Bool × ℕ)
+bodyTests N d register positions counts jumps closed =
+    tests44 N d register ++ (tests45 N d positions closed ++ (tests46 N d counts ++ tests47 N d jumps))
+
 -- taking up: the tests of the refusals 41 to 47, in the paper's order
 abbrev pub restoreTests : List ℕ → List (Bool × ℕ)
 restoreTests b =
-    tests41 b ++ (tests42 b ++ (tests43 b ++ (tests44 b
-    ++ (tests45 (netAt b) (stateAt b) (word b 20) (beginsClosed b)
-    ++ (tests46 (netAt b) (stateAt b) (word b 28) ++ tests47 (netAt b) (stateAt b) (word b 36))))))
+    tests41 b ++ (tests42 b ++ (tests43 b
+    ++ bodyTests (netAt b) (stateAt b) (word b 12) (word b 20) (word b 28) (word b 36) (beginsClosed (word b 28) (word b (word b 24)))))
 
 -- the number of the first refusal that applies; 0 where the record is taken up
 unfoldable pub restoreCode : List ℕ → ℕ
 restoreCode b = first (restoreTests b)
 
--- the second number: 43 also gives the table's, 44 the register's, or 0 where that is of no whole rows
+-- the second number: 43 also gives the table's; 44 the register's, or 0 where its length is no multiple of 4
 unfoldable pub restoreSecond : List ℕ → ℕ
 restoreSecond b =
-    pick (eqb (restoreCode b) 43) (loadCode (tableIn b))
-    (pick (both (eqb (restoreCode b) 44) (eqb (word b 12 % 4) 0)) (registerCode (netAt b) (stateAt b .kinds)) 0)
-
--- the trail b after a restore of r: r itself, or b where r is refused
-unfoldable pub restoreBytes : List ℕ → List ℕ → List ℕ
-restoreBytes b r = pick (eqb (restoreCode r) 0) r b
+    pick (eqb (restoreCode b) 43) (loadCode (tableIn b)) (second44 (netAt b) (stateAt b) (word b 12) (restoreCode b))

@@ -45,12 +45,12 @@ abbrev pub listed : R.Row → List Call
 listed r = map asks (r .asks)
 
 -- the record that the row's trail writes after n of its calls
-abbrev pub putDown : ℕ → R.Row → List ℕ
-putDown n r = getD (saves (begun (r .kinds)) (take n (listed r) ++ save 29844 ∷ [])) 0 []
+abbrev pub savedAfter : ℕ → R.Row → List ℕ
+savedAfter n r = getD (saves (begun (r .kinds)) (take n (listed r) ++ save 29844 ∷ [])) 0 []
 
--- the calls that take it up and go on
+-- the calls that restore it and go on
 abbrev pub goesOn : ℕ → R.Row → List Call
-goesOn n r = restore (putDown n r) ∷ drop n (listed r)
+goesOn n r = restore 29844 (savedAfter n r) ∷ drop n (listed r)
 
 -- the row holds: of the plain run and of the bytes
 abbrev pub Holds : Row → Type 0

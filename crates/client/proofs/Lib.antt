@@ -1,3 +1,6 @@
 pub mod Checks
 pub mod Starts
 pub mod ObjectsHold
+pub mod Numbers
+pub mod MaxRecordHolds
+pub mod FromC

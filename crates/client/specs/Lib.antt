@@ -1,2 +1,4 @@
 pub mod Client
 pub mod Objects
+pub mod CallList
+pub mod MaxRecord

@@ -12,7 +12,7 @@ use Rattle.words.specs.Words.{wordsOf}
 use Rattle.net.specs.Net.{Net}
 use Rattle.replay.specs.Plain.{registerCode}
 use Rattle.checkpoint.specs.Restore.{tests45, tests46, tests47}
-use Rattle.judging.specs.Judge.{hit, bodyState, beginsOne, judgeCode, judgeSecond}
+use Rattle.judging.specs.Judge.{hit, bodyState, closedBy, judgeCode, judgeSecond}
 
 -- tests that all give n
 first-hit : (n : ℕ) (ts rest : List (Bool × ℕ)) → All (λ (t : Bool × ℕ). t .1 ≡ n) ts → first (ts ++ rest) ≡ pick (hit ts) n (first rest)
@@ -31,7 +31,7 @@ module _ (N : Net) (ks ps cs js : List ℕ) where
   second = judgeSecond N ks ps cs js
 
   abbrev hit45 : Bool
-  hit45 = hit (tests45 N (bodyState ks ps [] []) (length ps) (beginsOne cs))
+  hit45 = hit (tests45 N (bodyState ks ps [] []) (length ps) (closedBy cs))
 
   abbrev hit46 : Bool
   hit46 = hit (tests46 N (bodyState ks [] cs []) (length cs))
@@ -43,7 +43,7 @@ module _ (N : Net) (ks ps cs js : List ℕ) where
   unfolding judgeCode
   code-is =
       ap (λ (n : ℕ). pick (not (eqb (length ks % 4) 0)) 44 (pick (not (eqb (registerCode N (wordsOf ks)) 0)) 44 n))
-      (first-hit 45 (tests45 N (bodyState ks ps cs js) (length ps) (beginsOne cs)) (tests46 N (bodyState ks ps cs js) (length cs) ++ tests47 N (bodyState ks ps cs js) (length js)) (refl, (refl, (refl, (refl, tt))))
+      (first-hit 45 (tests45 N (bodyState ks ps cs js) (length ps) (closedBy cs)) (tests46 N (bodyState ks ps cs js) (length cs) ++ tests47 N (bodyState ks ps cs js) (length js)) (refl, (refl, (refl, (refl, tt))))
       ∙ ap (pick hit45 45)
       (first-hit 46 (tests46 N (bodyState ks ps cs js) (length cs)) (tests47 N (bodyState ks ps cs js) (length js)) (refl, (refl, (refl, (refl, (refl, (refl, (refl, tt)))))))
       ∙ ap (pick hit46 46) (last (tests47 N (bodyState ks ps cs js) (length js)) (refl, (refl, (refl, (refl, tt)))))))

@@ -1,8 +1,8 @@
 -- The tests 44 to 47 by the bytes of the bodies behind a record's table, and the sums that the tests of jumps make.
-use Prim.Native.Nat.{ℕ, _+_, _*_, _%_, _≤_, _<_}
+use Prim.Native.Nat.{ℕ, _+_, _*_, _≤_, _<_}
 use mathlib.Core.Bool.{Bool, not}
 use mathlib.Core.Path.{_≡_}
-use mathlib.Core.List.{List, [], _∷_, _++_}
+use mathlib.Core.List.{List, [], _∷_}
 use lib.ListN.{length, getD}
 use lib.Dec.{leb, eqb}
 use Rattle.words.specs.Lists.{pick, any, either, one, sumTo, both}
@@ -12,7 +12,7 @@ use Rattle.net.specs.Net.{Net, takes, inputOf}
 use Rattle.replay.specs.Plain.{registerCode}
 use Rattle.replay.specs.State.{State}
 use Rattle.replay.specs.Record.{countsSize, stateFrom}
-use Rattle.checkpoint.specs.Restore.{tests45, tests46, tests47}
+use Rattle.checkpoint.specs.Restore.{beginsClosed, second44, bodyTests}
 
 -- one of the tests holds
 abbrev pub hit : List (Bool × ℕ) → Bool
@@ -22,22 +22,17 @@ hit ts = any (λ (t : Bool × ℕ). t .0) ts
 abbrev pub bodyState : List ℕ → List ℕ → List ℕ → List ℕ → State
 bodyState ks ps cs js = stateFrom (wordsOf ks) (wordsOf ps) (wordsOf cs) (wordsOf js)
 
--- the bytes begin with a 1
-abbrev pub beginsOne : List ℕ → Bool
-beginsOne cs = both (leb 4 (length cs)) (eqb (word cs 0) 1)
+-- counts in these bytes begin with a 1
+abbrev pub closedBy : List ℕ → Bool
+closedBy cs = beginsClosed (length cs) (word cs 0)
 
--- the tests 44 to 47: N is the table's net, then the bytes of register, positions, counts and jumps
-abbrev pub judgeTests : Net → List ℕ → List ℕ → List ℕ → List ℕ → List (Bool × ℕ)
-judgeTests N ks ps cs js =
-    (not (eqb (length ks % 4) 0), 44) ∷ (not (eqb (registerCode N (wordsOf ks)) 0), 44)
-    ∷ (tests45 N (bodyState ks ps cs js) (length ps) (beginsOne cs) ++ (tests46 N (bodyState ks ps cs js) (length cs) ++ tests47 N (bodyState ks ps cs js) (length js)))
-
+-- the first of 44 to 47 that applies: N is the table's net, then the bytes of register, positions, counts and jumps
 unfoldable pub judgeCode : Net → List ℕ → List ℕ → List ℕ → List ℕ → ℕ
-judgeCode N ks ps cs js = first (judgeTests N ks ps cs js)
+judgeCode N ks ps cs js = first (bodyTests N (bodyState ks ps cs js) (length ks) (length ps) (length cs) (length js) (closedBy cs))
 
--- the second number: 44 also gives the register's, or 0 where that is of no whole rows
+-- the second number
 unfoldable pub judgeSecond : Net → List ℕ → List ℕ → List ℕ → List ℕ → ℕ
-judgeSecond N ks ps cs js = pick (both (eqb (judgeCode N ks ps cs js) 44) (eqb (length ks % 4) 0)) (registerCode N (wordsOf ks)) 0
+judgeSecond N ks ps cs js = second44 N (bodyState ks ps cs js) (length ks) (judgeCode N ks ps cs js)
 
 -- 45, of one object of kind k on place p: the place is unknown, of another kind, or not the sink in a closed trail
 abbrev pub badPosition : Net → Bool → ℕ → ℕ → Bool

@@ -4,7 +4,7 @@
 use crate::counts::bad_counts;
 use crate::jumps::bad_jumps;
 use crate::positions::bad_positions;
-use crate::positions::begins_one;
+use crate::positions::begins_closed;
 use checkpoint::RestoreAnswer;
 use replay::register::register_refusal;
 ghost use mathlib.Core.Path.{_≡_};
@@ -29,7 +29,7 @@ pub fn judge(ks: &[u8], ps: &[u8], cs: &[u8], js: &[u8], t: &[u32; 1684]) -> Res
     if n != 0 {
         return RestoreAnswer::Objects(n);
     }
-    if bad_positions(ks, ps, t, begins_one(cs)) {
+    if bad_positions(ks, ps, t, begins_closed(cs)) {
         return RestoreAnswer::Positions;
     }
     if bad_counts(ks, cs, t) {

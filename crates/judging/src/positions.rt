@@ -9,11 +9,11 @@ ghost use Rattle.words.specs.Words.{wordsOf};
 ghost use Rattle.net.specs.Held.{netIn, Held};
 ghost use Rattle.replay.specs.Plain.{registerCode};
 ghost use Rattle.checkpoint.specs.Restore.{tests45};
-ghost use Rattle.judging.specs.Judge.{hit, bodyState, beginsOne, badPosition};
+ghost use Rattle.judging.specs.Judge.{hit, bodyState, closedBy, badPosition};
 
 // The counts body begins with a 1.
-pub fn begins_one(cs: &[u8]) -> bool
-    ensures { λ r. ⌜ r ≡ beginsOne (now (cs .entry)) ⌝ }
+pub fn begins_closed(cs: &[u8]) -> bool
+    ensures { λ r. ⌜ r ≡ closedBy (now (cs .entry)) ⌝ }
 {
     if cs.len() < 4 {
         return false;

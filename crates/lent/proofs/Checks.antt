@@ -6,7 +6,7 @@ use mathlib.Core.Path.{_≡_, ap, sym, _∙_}
 use mathlib.Core.List.{List}
 use native.Mathlib.Omega.{arith}
 use lib.ListN.{length, getD}
-use borrow.Author.Tests.{ltb-false, eq-eqb, ne-eqb}
+use borrow.Author.Tests.{eq-eqb, ne-eqb}
 use Rattle.words.specs.Lists.{pick}
 use Rattle.words.proofs.Refusals.{none-apply}
 use Rattle.net.specs.Table.{loadCode}
@@ -18,20 +18,16 @@ use Rattle.replay.specs.Calls.{netAt}
 use Rattle.replay.specs.Ready.{Ready}
 use Rattle.checkpoint.specs.Restore.{restoreTests, restoreCode, restoreSecond}
 use Rattle.checkpoint.specs.Take.{checkedWords}
-use Rattle.checkpoint.proofs.Restored.{restore-intact, restored-loads}
+use Rattle.checkpoint.proofs.Restored.{restore-intact, restored-le, restored-loads}
 use Rattle.answers.specs.Answers.{packed}
 use Rattle.lent.specs.OnTrail.{onTrail, leftBy}
 use Rattle.lent.specs.Checked.{Checked}
 
--- a trail that is taken: it has no second number and at most 29,844 bytes, and the words of its check hold its net
+-- a trail that is taken: it has no second number, and the words of its check hold its net
 module _ (b : List ℕ) (z : restoreCode b ≡ 0) where
   no-second : restoreSecond b ≡ 0
   unfolding restoreSecond
   no-second = rw z
-
-  taken-le : length b ≤ 29844
-  unfolding restoreCode
-  taken-le = ltb-false 29844 (length b) (none-apply (restoreTests b) (omega arith) z .1 .0)
 
   words-checked : (w : List ℕ) → checkedWords b w ≡ afterLoad (tableIn b) w
   unfolding checkedWords restoreCode
@@ -66,7 +62,7 @@ module _ (b w : List ℕ) (r : ℕ) (C : Checked b w r) where
     taken = omega (arith, C .answer)
 
     pub few : length b ≤ 29844
-    few = taken-le b taken
+    few = restored-le b taken
 
     pub go-answer : (own : ℕ) → own ≡ onTrail b own
     go-answer own = sym (ap (λ (t : Bool). pick t own (packed (restoreCode b) (restoreSecond b))) (eq-eqb (restoreCode b) 0 taken))

@@ -21,9 +21,9 @@ use Rattle.net.proofs.HeldLaws.{loaded-held, held-net}
 use Rattle.replay.specs.Plain.{registerCode}
 use Rattle.replay.specs.Record.{countsSize, wordsFrom, tableIn, stateFrom, stateIn}
 use Rattle.replay.specs.Calls.{netAt, stateAt}
-use Rattle.checkpoint.specs.Restore.{beginsClosed, tests45, tests46, tests47, restoreTests, restoreCode, restoreSecond}
+use Rattle.checkpoint.specs.Restore.{beginsClosed, tests44, tests45, tests46, tests47, bodyTests, restoreTests, restoreCode, restoreSecond}
 use Rattle.checkpoint.specs.Take.{Framed, Opened, checkedWords, takeCode, takeBytes}
-use Rattle.judging.specs.Judge.{beginsOne, judgeCode, judgeSecond}
+use Rattle.judging.specs.Judge.{closedBy, judgeCode, judgeSecond}
 use Rattle.words.proofs.Words.{words-take, word-drop}
 use Rattle.checkpoint.proofs.Spans.{ends-at}
 use Rattle.judging.proofs.Verdicts.{judge-not-43}
@@ -57,10 +57,10 @@ module _ (N : Net) (closed : Bool) (s4 s5 s6 s7 : ℕ) where
   from45 K P C J = tests45 N (stateFrom K P C J) s5 closed ++ from46 K P C J
 
   abbrev on44 : List ℕ → List (Bool × ℕ)
-  on44 K = (not (eqb (s4 % 4) 0), 44) ∷ (not (eqb (registerCode N K) 0), 44) ∷ []
+  on44 K = tests44 N (stateFrom K [] [] []) s4
 
   abbrev tests : List ℕ → List ℕ → List ℕ → List ℕ → List (Bool × ℕ)
-  tests K P C J = on44 K ++ from45 K P C J
+  tests K P C J = bodyTests N (stateFrom K P C J) s4 s5 s6 s7 closed
 
   same-tests : (K L P Q C D J I : List ℕ) → (s4 % 4 ≡ 0 → K ≡ L) → (s5 ≡ 4 * length L → P ≡ Q) → (s6 ≡ 4 * countsSize N → C ≡ D) → (s7 ≡ 4 * (N .places * N .places) → J ≡ I)
       → first (tests K P C J) ≡ first (tests L Q D I)
@@ -111,10 +111,13 @@ module _ (b : List ℕ) (F : Framed b) where
   part-size : (i n : ℕ) → i + n ≤ length b → length (take n (drop i b)) ≡ n
   part-size i n h = simp (length-take, length-drop) (omega arith)
 
-  begins-is : beginsOne cs ≡ beginsClosed b
+  abbrev closed : Bool
+  closed = beginsClosed (word b 28) (word b (word b 24))
+
+  begins-is : closedBy cs ≡ closed
   begins-is = ap (λ (n : ℕ). both (leb 4 n) (eqb (word cs 0) 1)) (part-size (word b 24) (word b 28) (let s = spread in omega arith)) ∙ go (decLe 4 (word b 28))
     where
-      go : Dec (4 ≤ word b 28) → both (leb 4 (word b 28)) (eqb (word cs 0) 1) ≡ beginsClosed b
+      go : Dec (4 ≤ word b 28) → both (leb 4 (word b 28)) (eqb (word cs 0) 1) ≡ closed
       go (yes h) = ap (λ (v : ℕ). both (leb 4 (word b 28)) (eqb v 1)) (word-take (drop (word b 24) b) (word b 28) h ∙ word-drop b (word b 24))
       go (no n) = rw (lt-leb 4 (word b 28) (omega arith))
 
@@ -134,16 +137,16 @@ module _ (b : List ℕ) (F : Framed b) where
         let N : Net = netAt b in
         let K : List ℕ = wordsOf ks in let P : List ℕ = wordsOf ps in let C : List ℕ = wordsOf cs in let J : List ℕ = wordsOf js in
         rw (le-ltb (length b) 40 (F .size-ge), le-ltb 29844 (length b) (F .size-le), F .laid, eq-eqb (loadCode (tableIn b)) 0 z)
-        (same-tests N (beginsClosed b) (word b 12) (word b 20) (word b 28) (word b 36) _ K _ P _ C _ J
+        (same-tests N closed (word b 12) (word b 20) (word b 28) (word b 36) _ K _ P _ C _ J
         kinds-are
         (λ e. sym (span-words b (word b 16) (word b 20) (word b 20 / 4) (omega arith)))
         (λ e. sym (span-words b (word b 24) (word b 28) (countsSize N) e))
         (λ e. sym (span-words b (word b 32) (word b 36) (N .places * N .places) e))
         ∙ ap (λ (c : Bool). first (tests N c (word b 12) (word b 20) (word b 28) (word b 36) K P C J)) (sym begins-is)
-        ∙ ap (λ (n : ℕ). first (tests N (beginsOne cs) n (word b 20) (word b 28) (word b 36) K P C J)) (sym (part-size (word b 8) (word b 12) (omega arith)))
-        ∙ ap (λ (n : ℕ). first (tests N (beginsOne cs) (length ks) n (word b 28) (word b 36) K P C J)) (sym (part-size (word b 16) (word b 20) (omega arith)))
-        ∙ ap (λ (n : ℕ). first (tests N (beginsOne cs) (length ks) (length ps) n (word b 36) K P C J)) (sym (part-size (word b 24) (word b 28) (omega arith)))
-        ∙ ap (λ (n : ℕ). first (tests N (beginsOne cs) (length ks) (length ps) (length cs) n K P C J)) (sym (part-size (word b 32) (word b 36) (omega arith))))
+        ∙ ap (λ (n : ℕ). first (tests N (closedBy cs) n (word b 20) (word b 28) (word b 36) K P C J)) (sym (part-size (word b 8) (word b 12) (omega arith)))
+        ∙ ap (λ (n : ℕ). first (tests N (closedBy cs) (length ks) n (word b 28) (word b 36) K P C J)) (sym (part-size (word b 16) (word b 20) (omega arith)))
+        ∙ ap (λ (n : ℕ). first (tests N (closedBy cs) (length ks) (length ps) n (word b 36) K P C J)) (sym (part-size (word b 24) (word b 28) (omega arith)))
+        ∙ ap (λ (n : ℕ). first (tests N (closedBy cs) (length ks) (length ps) (length cs) n K P C J)) (sym (part-size (word b 32) (word b 36) (omega arith))))
 
     second-judged : restoreSecond b ≡ judgeSecond (netAt b) ks ps cs js
     unfolding restoreSecond judgeSecond stateAt stateIn

@@ -7,7 +7,7 @@ use Rattle.words.specs.Words.{wordsOf}
 use Rattle.net.specs.Held.{netIn}
 use Rattle.replay.specs.Plain.{registerCode}
 use Rattle.checkpoint.specs.Restore.{tests45}
-use Rattle.judging.specs.Judge.{hit, bodyState, beginsOne}
+use Rattle.judging.specs.Judge.{hit, bodyState, closedBy}
 use Rattle.judging.proofs.Counting.{counted}
 use Rattle.judging.proofs.Verdicts.{judge-rows, judge-register, judge-positions, judge-counts, judge-jumps, judge-taken}
 use borrow.Author.Needs.{needs}
@@ -17,10 +17,10 @@ use Rattle.judging.proofs.judge.Tie as tie
 registered : (c : tie.Else2) → registerCode (netIn (c .before .before .before .before .before .before .before .args .t .now)) (wordsOf (c .before .before .before .before .before .before .before .args .ks .now)) ≡ 0
 registered c = sym (c .before .register-refusal .ensures) ∙ c .if2 .left
 
-positions-are : (c : tie.After-bad-positions) → c .bad-positions .result ≡ hit (tests45 (netIn (c .before .before .before .before .before .before .before .before .before .args .t .now)) (bodyState (c .before .before .before .before .before .before .before .before .before .args .ks .now) (c .before .before .before .before .before .before .before .before .before .args .ps .now) [] []) (length (c .before .before .before .before .before .before .before .before .before .args .ps .now)) (beginsOne (c .before .before .before .before .before .before .before .before .before .args .cs .now)))
+positions-are : (c : tie.After-bad-positions) → c .bad-positions .result ≡ hit (tests45 (netIn (c .before .before .before .before .before .before .before .before .before .args .t .now)) (bodyState (c .before .before .before .before .before .before .before .before .before .args .ks .now) (c .before .before .before .before .before .before .before .before .before .args .ps .now) [] []) (length (c .before .before .before .before .before .before .before .before .before .args .ps .now)) (closedBy (c .before .before .before .before .before .before .before .before .before .args .cs .now)))
 positions-are c =
     let a = c .before .before .before .before .before .before .before .before .before .args in
-    c .bad-positions .ensures ∙ ap (λ (b : Bool). hit (tests45 (netIn (a .t .now)) (bodyState (a .ks .now) (a .ps .now) [] []) (length (a .ps .now)) b)) (c .before .begins-one .ensures)
+    c .bad-positions .ensures ∙ ap (λ (b : Bool). hit (tests45 (netIn (a .t .now)) (bodyState (a .ks .now) (a .ps .now) [] []) (length (a .ps .now)) b)) (c .before .begins-closed .ensures)
 
 returns : tie.Need-returns
 returns c = let s = c .before .before .before .before .before in judge-rows (netIn (s .args .t .now)) (s .args .ks .now) (s .args .ps .now) (s .args .cs .now) (s .args .js .now) (c .if1 .taken)
@@ -34,8 +34,8 @@ returns-2 c =
     let r = judge-register (netIn (s .args .t .now)) (s .args .ks .now) (s .args .ps .now) (s .args .cs .now) (s .args .js .now) (c .before .before .if1 .left) (λ e. c .if2 .taken (c .before .register-refusal .ensures ∙ e)) in
     (r .0, c .before .register-refusal .ensures ∙ r .1)
 
-begins-one-requires : tie.Need-begins-one-requires
-begins-one-requires c κs = search needs
+begins-closed-requires : tie.Need-begins-closed-requires
+begins-closed-requires c κs = search needs
 
 bad-positions-requires : tie.Need-bad-positions-requires
 bad-positions-requires c κs = (c .before .before .before .before .before .before .before .before .pre, registered (c .before))
@@ -69,7 +69,7 @@ judge-spec =
     returns
     register-refusal-requires
     returns-2
-    begins-one-requires
+    begins-closed-requires
     bad-positions-requires
     returns-3
     bad-counts-requires

@@ -2,8 +2,8 @@
 use lib.ListN.{length}
 use borrow.Author.Tests.{le-leb, lt-leb}
 use borrow.Author.Needs.{needs}
-use Rattle.judging.proofs.positions.begins_one.Statement.{statement}
-use Rattle.judging.proofs.positions.begins_one.Tie as tie
+use Rattle.judging.proofs.positions.begins_closed.Statement.{statement}
+use Rattle.judging.proofs.positions.begins_closed.Tie as tie
 
 returns : tie.Need-returns
 returns c = rw (lt-leb 4 (length (c .before .before .args .cs .now)) (c .if1 .taken))
@@ -14,5 +14,5 @@ word-at-requires c κs = search needs
 returns-2 : tie.Need-returns-2
 returns-2 c = rw (le-leb 4 (length (c .before .before .before .args .cs .now)) (c .before .if1 .left), ← c .word-at .ensures)
 
-pub begins-one-spec : {M : Type 1} → statement M
-begins-one-spec = tie.close (tie.spec returns word-at-requires returns-2)
+pub begins-closed-spec : {M : Type 1} → statement M
+begins-closed-spec = tie.close (tie.spec returns word-at-requires returns-2)
