@@ -42,10 +42,12 @@ pub fn refuse_arcs(w: &[u32; 1684]) -> u32
     if bad_arcs(w) {
         return 7;
     }
-    if two_of_kind(w) {
+    let twice = two_of_kind(w);
+    let cut_off = unreached(w);
+    if twice {
         return 8;
     }
-    if unreached(w) {
+    if cut_off {
         return 9;
     }
     0
