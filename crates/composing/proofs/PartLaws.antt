@@ -12,6 +12,7 @@ use Rattle.replay.specs.Ready.{Ready}
 use Rattle.replay.specs.Rows.{pairsBelow}
 use Rattle.report.specs.TrailLines.{trailLineAt, placeLineAt, actLineAt}
 use Rattle.report.specs.Report.{textOf, pairLineAt, reportAt}
+use Rattle.report.specs.Lengths.{maxLine}
 use Rattle.report.proofs.ReportLaws.{joined}
 use Rattle.composing.specs.Parts.{linesOn, linesIn, lineAt, linesFrom, fits, partFrom, partsFrom}
 use Rattle.composing.proofs.LineLaws.{line-trail, line-place, line-act, line-pair}
@@ -68,7 +69,7 @@ module _ (b : List ℕ) where
       ∙ simp append-assoc)
 
 -- parts with room for a line are the whole report, one behind the other
-module _ (w b : List ℕ) (R : Ready w b) (room : ℕ) (h : 113 ≤ room) where
+module _ (w b : List ℕ) (R : Ready w b) (room : ℕ) (h : maxLine ≤ room) where
   parts-from : (times i : ℕ) → i ≤ linesIn b → linesIn b - i ≤ times → partsFrom b room times i ≡ linesFrom b (linesIn b - i) i
   unfolding partFrom
   parts-from zero i l t = let z : linesIn b - i ≡ 0 = omega arith in rw z
@@ -81,7 +82,7 @@ module _ (w b : List ℕ) (R : Ready w b) (room : ℕ) (h : 113 ≤ room) where
       ∙ sym (lines-join b n (linesIn b - (i + n)) i)
       ∙ ap (λ (k : ℕ). linesFrom b k i) s
     where
-      go : (n : ℕ) (t : Bool) → ltb i (linesIn b) ≡ t → (i < linesIn b → 113 ≤ room → 0 < n) → linesIn b - (i + n) ≤ times
+      go : (n : ℕ) (t : Bool) → ltb i (linesIn b) ≡ t → (i < linesIn b → maxLine ≤ room → 0 < n) → linesIn b - (i + n) ≤ times
       go n true e f = omega (arith, f (ltb-true i (linesIn b) e) h)
       go n false e f = omega (arith, ltb-false i (linesIn b) e)
 

@@ -29,7 +29,7 @@ unfoldable pub lineCode : List (Bool × ℕ) → List ℕ → List ℕ → ℕ
 lineCode tests line lent = first (tests ++ ((ltb (length lent) (length line), 61) ∷ []))
 
 -- writing the line into the bytes `lent`, behind the tests, is answered r and leaves `left`: the line and the other bytes
--- as they were, and on a refusal all bytes as they were; no line has more than 113 bytes
+-- as they were, and on a refusal all bytes as they were; no line has more than 113 bytes, whatever its numbers
 pub record Writes (tests : List (Bool × ℕ)) (line lent : List ℕ) (r : LineAnswer) (left : List ℕ) : Type 0 where
   pub code : codeOf r ≡ lineCode tests line lent
   pub size : sizeOf r ≡ pick (eqb (lineCode tests line lent) 0) (length line) 0

@@ -4,10 +4,11 @@
 use text::field::Field;
 use text::field::Word;
 ghost use mathlib.Core.Path.{_≡_};
-ghost use mathlib.Core.List.{[]};
+ghost use mathlib.Core.List.{[], _∷_};
 ghost use Prim.Native.Nat.{_≤_};
 ghost use lib.ListN.{length};
 ghost use Rattle.words.specs.Lists.{over};
+ghost use Rattle.text.specs.declared.field.Field.the-variants.{Number, Fitness};
 ghost use Rattle.lines.specs.Lines.{fieldsText, lineOf, trailLine, placeLine, actLine, jumpLine, refusedLine};
 ghost use Rattle.lines.specs.Answer.{sizeOf, Writes};
 
@@ -77,6 +78,29 @@ fn write_line(w: Word, fs: [Field; 5], out: &mut [u8]) -> LineAnswer
     LineAnswer::Written(n)
 }
 
+// A word, four numbers, and FIT of so many jumps in so many transfers.
+fn counts_line(
+    w: Word,
+    a: u32,
+    b: u32,
+    c: u32,
+    d: u32,
+    jumps: u32,
+    transfers: u32,
+    out: &mut [u8],
+) -> LineAnswer
+    ensures { λ r. ⌜ Writes [] (lineOf w (Number a ∷ Number b ∷ Number c ∷ Number d ∷ Fitness jumps transfers ∷ [])) (now (out .entry)) r (now (out .exit)) ⌝ }
+{
+    let fs = [
+        Field::Number(a as u64),
+        Field::Number(b as u64),
+        Field::Number(c as u64),
+        Field::Number(d as u64),
+        Field::Fitness(jumps, transfers),
+    ];
+    write_line(w, fs, out)
+}
+
 // `trail`: register size, events, jumps, transfers, FIT.
 pub fn trail_line(
     objects: u32,
@@ -87,14 +111,16 @@ pub fn trail_line(
 ) -> LineAnswer
     ensures { λ r. ⌜ Writes [] (trailLine objects events jumps transfers) (now (out .entry)) r (now (out .exit)) ⌝ }
 {
-    let fs = [
-        Field::Number(objects as u64),
-        Field::Number(events as u64),
-        Field::Number(jumps as u64),
-        Field::Number(transfers as u64),
-        Field::Fitness(jumps, transfers),
-    ];
-    write_line(Word::Trail, fs, out)
+    counts_line(
+        Word::Trail,
+        objects,
+        events,
+        jumps,
+        transfers,
+        jumps,
+        transfers,
+        out,
+    )
 }
 
 // `place`: number, TAKEN, IN, OUT, FIT.
@@ -107,28 +133,23 @@ pub fn place_line(
 ) -> LineAnswer
     ensures { λ r. ⌜ Writes [] (placeLine place consumed «jumps_in» «jumps_out») (now (out .entry)) r (now (out .exit)) ⌝ }
 {
-    let fs = [
-        Field::Number(place as u64),
-        Field::Number(consumed as u64),
-        Field::Number(jumps_in as u64),
-        Field::Number(jumps_out as u64),
-        Field::Fitness(jumps_in, consumed),
-    ];
-    write_line(Word::Place, fs, out)
+    counts_line(
+        Word::Place,
+        place,
+        consumed,
+        jumps_in,
+        jumps_out,
+        jumps_in,
+        consumed,
+        out,
+    )
 }
 
 // `act`: number, FIRED, MOVED, JUMPS, FIT.
 pub fn act_line(act: u32, fired: u32, moved: u32, jumps: u32, out: &mut [u8]) -> LineAnswer
     ensures { λ r. ⌜ Writes [] (actLine act fired moved jumps) (now (out .entry)) r (now (out .exit)) ⌝ }
 {
-    let fs = [
-        Field::Number(act as u64),
-        Field::Number(fired as u64),
-        Field::Number(moved as u64),
-        Field::Number(jumps as u64),
-        Field::Fitness(jumps, moved),
-    ];
-    write_line(Word::Act, fs, out)
+    counts_line(Word::Act, act, fired, moved, jumps, jumps, moved, out)
 }
 
 // `jump`: from, to, count. Nothing is written for a pair that has no jumps.

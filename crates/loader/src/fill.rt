@@ -44,7 +44,7 @@ pub fn put_sizes(w: &mut [u32; 1684], kinds: u32, places: u32, acts: u32, arcs: 
     w[3] = arcs;
 }
 
-// All words of w become those of t.
+// All words of t become those of w.
 pub fn copy_all(w: &[u32; 1684], t: &mut [u32; 1684])
     requires { ⌜ length (now w) ≡ 1684 ⌝ }
     ensures { λ _. ⌜ now (t .exit) ≡ sets (now (t .entry)) 0 (now (w .entry)) ⌝ }

@@ -43,7 +43,7 @@ fn copy_front(s: &[u8], w: &mut [u32; 1684])
     copy_body(s, 2, w, COUNTS);
 }
 
-// The words w, to which none of 3 to 9 applies, and their look-up words.
+// The lent words t become the words w, to which none of 4 to 7 applies, and behind them the look-up words of their net.
 fn keep_words(w: &[u32; 1684], t: &mut [u32; 1684])
     requires { ⌜ Ruled (now w) ⌝ }
     ensures { λ _. ⌜ now (t .exit) ≡ keptWords (now (w .entry)) (now (t .entry)) ⌝ }

@@ -83,7 +83,7 @@ pub record Tabled (w table : List ℕ) : Type 0 where
   pub net : netIn w ≡ netOf table
   pub taken : loadCode table ≡ 0
 
--- words that hold the numbers of kinds, places and activities that test 3 allows
+-- 1,684 words that hold no more kinds, places and activities than test 3 allows
 pub record Sized (w : List ℕ) : Type 0 where
   pub size : length w ≡ 1684
   pub kinds : getD w 0 0 ≤ 8

@@ -56,7 +56,8 @@ pub record GoodArc (N : Net) (x : Arc) : Type 0 where
   pub out : x .1 < N .places
   pub same : N .kindOf (x .1) ≡ N .kindOf (x .0)
 
--- What loading promises, and all that a replay may rely on.
+-- What loading promises of a net, and all that a replay relies on of it. Of the table's bytes it relies on their number alone: at most
+-- 4,704 (`replay: Intact`) and a multiple of 4 (`replay: Ready`), which loading gives too.
 pub record Loaded (N : Net) : Type 0 where
   pub kinds-ge : 1 ≤ N .kinds
   pub kinds-le : N .kinds ≤ 8

@@ -1,4 +1,5 @@
--- What the tests of arcs may rely on: words to whose bodies none of 3 to 7 applies.
+-- What the later tests of loading may rely on: words to whose bodies none of the earlier ones applies. Of test 3 they have what `Sized`
+-- says, that nothing is too many.
 use Prim.Native.Nat.{ℕ, zero, suc, _≤_}
 use mathlib.Core.Bool.{Bool, false, not}
 use mathlib.Core.Path.{_≡_}
@@ -20,12 +21,13 @@ frontTests w =
     ∷ (not (eqb (total (λ (n : ℕ). n) (countsIn w)) (getD w 3 0)), 6)
     ∷ []
 
--- words to which none of 3 to 6 applies
+-- what 7 to 9 may rely on: none of 4 to 6 applies, and no more arcs than there is room for
 pub record Fronted (w : List ℕ) : Type 0 where
   pub sized : Sized w
   pub none : first (frontTests w) ≡ 0
   pub arcs-few : getD w 3 0 ≤ 512
 
+-- what 8, 9 and the look-up words may rely on: none of 4 to 7 applies
 pub record Ruled (w : List ℕ) : Type 0 where
   pub sized : Sized w
   pub places : any (λ (k : ℕ). leb (netIn w .kinds) k) (placesIn w) ≡ false

@@ -56,12 +56,12 @@ abbrev pub badArc : Net → Arc → Bool
 badArc N x =
     either (leb (N .places) (x .0) ∷ leb (N .places) (x .1) ∷ not (eqb (N .kindOf (x .0)) (N .kindOf (x .1))) ∷ [])
 
--- 3: how many kinds, places and activities
+-- 3: too few or too many kinds, places or activities
 abbrev pub sizeTests : ℕ → ℕ → ℕ → List (Bool × ℕ)
 sizeTests kinds places acts =
     (ltb kinds 1, 3) ∷ (ltb 8 kinds, 3) ∷ (ltb places 2, 3) ∷ (ltb 64 places, 3) ∷ (ltb acts 1, 3) ∷ (ltb 64 acts, 3) ∷ []
 
--- 2: the bodies' lengths in bytes are whole rows
+-- 2: a body's length in bytes is no multiple of its row; then 3
 abbrev pub rowTests : ℕ → ℕ → ℕ → ℕ → List (Bool × ℕ)
 rowTests kinds places acts arcs =
     (not (eqb (kinds % 8) 0), 2) ∷ (not (eqb (places % 4) 0), 2) ∷ (not (eqb (acts % 4) 0), 2) ∷ (not (eqb (arcs % 8) 0), 2)

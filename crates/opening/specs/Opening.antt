@@ -42,7 +42,7 @@ registerOf f = wordsOf (take (word f 4) (drop 16 f))
 unfoldable pub traceCode : Net → List ℕ → ℕ
 traceCode N f = first (shapeTests f ++ registerTests N (registerOf f))
 
--- the same for contents that are not broken: 71 and 11 by how many bytes the register claims and how many of them are there,
+-- the same for contents that are not broken: 71 and 11 by how many bytes the register claims and how many are there,
 -- then 11 and 12 on its kinds
 unfoldable pub openCode : Net → ℕ → ℕ → List ℕ → ℕ
 openCode N claimed there ks = first ((ltb there claimed, 71) ∷ (ltb 4096 claimed, 11) ∷ registerTests N ks)

@@ -43,8 +43,9 @@ pub fn read_contents(head: &[u8]) -> Contents
     }
 }
 
-// 71, 11, 12 or 0 for a file whose contents are not broken. Its register claims `claimed` bytes, of which `there` are in
-// the file; `held` is those bytes, where they are all there and at most 4,096. A longer register is counted and not held.
+// 71, 11, 12 or 0 for a file whose contents are not broken. Its register claims `claimed` bytes; `there` counts the bytes behind the
+// contents, all or up to as many as are claimed; `held` is the register's bytes, where they are all there and at most 4,096. A longer
+// register is counted and not held.
 pub fn opening_refusal(claimed: usize, there: usize, held: &[u8], t: &[u32; 1684]) -> u32
     requires { ⌜ Held (now t) ⌝ }
     ensures { λ r. ⌜ r ≡ openCode (netIn (now (t .entry))) claimed there (wordsOf (now (held .entry))) ⌝ }

@@ -1,4 +1,5 @@
 pub mod TrailLaws
 pub mod PairIndex
+pub mod LengthLaws
 pub mod ReportLaws
 pub mod RowsHold

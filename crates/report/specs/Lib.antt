@@ -1,3 +1,4 @@
 pub mod TrailLines
+pub mod Lengths
 pub mod Report
 pub mod Rows

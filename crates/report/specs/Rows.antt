@@ -1,4 +1,4 @@
--- Document 01's report (sheet) for T4, and T13, as rows: what a definition gives, and the text that it is to be.
+-- Document 01's report (sheet) for T4, T13, and a longest line, as rows: what a definition gives, and the text that it is to be.
 use Prim.Native.Nat.{ℕ}
 use Prim.Native.String.{String}
 use mathlib.Core.Path.{_≡_}
@@ -32,6 +32,10 @@ lines =
     ∷ record { gives = jumpLine 3 4 1; text = "jump 3 4 1\n" }
     ∷ record { gives = jumpLine 4 3 0; text = "" }
     ∷ []
+
+-- a longest line: 1,024 objects, 1,000,000 events of eight objects and a close, where each object jumps each time
+unfoldable pub longest : List Row
+longest = record { gives = trailLine 1024 1000000 8001024 8001024; text = "trail 1024 1000000 8001024 8001024 0.000\n" } ∷ []
 
 -- T13, and FIT where the divisor is 0
 unfoldable pub rounding : List Row

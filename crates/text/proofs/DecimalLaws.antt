@@ -42,12 +42,15 @@ pub few : (n : ℕ) → length (decimal n) ≤ n + 1
 unfolding decimal
 few n = omega (arith, at-most (suc n) n)
 
--- a number below a power of ten has at most as many digits as the power has zeros
-pub short : (k n : ℕ) → n < 10 ^ suc k → length (decimal n) ≤ suc k
-short zero n h = omega (arith, ap length (small n h))
-short (suc k) n h =
-    split (ltb n 10) (λ t. let w : n < 10 = ltb-true n 10 t in omega (arith, ap length (small n w)))
+-- the digits of a number below a power of ten, of which there are at most as many as the power has zeros
+pub digits-are : (k n : ℕ) → n < 10 ^ suc k → decimal n ≡ digitsIn (suc k) n
+digits-are zero n h = rw (small n h, lt-ltb n 10 h)
+digits-are (suc k) n h =
+    split (ltb n 10) (λ t. let w : n < 10 = ltb-true n 10 t in rw (small n w, t))
     (λ t.
     let w = ltb-false n 10 t in
     let b : n / 10 < 10 ^ suc k = omega (arith, pow-suc 10 (suc k)) in
-    omega (arith, one-more n w, short k (n / 10) b))
+    rw (more n w, digits-are k (n / 10) b, t))
+
+pub short : (k n : ℕ) → n < 10 ^ suc k → length (decimal n) ≤ suc k
+short k n h = rw (digits-are k n h) (at-most (suc k) n)

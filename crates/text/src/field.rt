@@ -3,8 +3,9 @@
 ghost use mathlib.Core.Path.{_≡_};
 ghost use mathlib.Core.List.{_∷_};
 ghost use Prim.Native.Nat.{_≤_};
-ghost use lib.ListN.{length};
+ghost use lib.ListN.{length, take, drop};
 ghost use Rattle.words.specs.Lists.{over};
+ghost use Rattle.text.specs.Text.{ascii};
 ghost use Rattle.text.specs.Decimal.{decimal};
 ghost use Rattle.text.specs.Fitness.{fitness, fitnessText};
 ghost use Rattle.text.specs.Fields.{wordText, fieldText};
@@ -40,18 +41,28 @@ pub fn word_width(w: Word) -> usize
     }
 }
 
+// Where the word starts among the bytes of all words, one behind the other.
+fn word_start(w: Word) -> usize
+    ensures { λ r. ⌜ (r ≤ 17) × (take (length (wordText w)) (drop r (ascii "trailplaceactjumprefused")) ≡ wordText w) ⌝ }
+{
+    match w {
+        Word::Trail => 0,
+        Word::Place => 5,
+        Word::Act => 10,
+        Word::Jump => 13,
+        Word::Refused => 17,
+    }
+}
+
 // The word at the start of a lent part, and how many bytes it takes.
 pub fn put_word(w: Word, out: &mut [u8]) -> usize
     requires { ⌜ length (wordText w) ≤ length (now out) ⌝ }
     ensures { λ r. ⌜ (r ≡ length (wordText w)) × (now (out .exit) ≡ over (wordText w) (now (out .entry))) ⌝ }
 {
-    match w {
-        Word::Trail => bytes::copy(b"trail", out),
-        Word::Place => bytes::copy(b"place", out),
-        Word::Act => bytes::copy(b"act", out),
-        Word::Jump => bytes::copy(b"jump", out),
-        Word::Refused => bytes::copy(b"refused", out),
-    }
+    let all: &[u8] = b"trailplaceactjumprefused";
+    let at = word_start(w);
+    let end = at + word_width(w);
+    bytes::copy(&all[at..end], out)
 }
 
 // How many bytes a field takes, with the space before it.

@@ -1,5 +1,5 @@
 // Four-byte numbers in byte slices, least significant byte first, and the layout of files that begin with contents pairs.
-// The lowest room: all crates but `digits` and `input` lean on it, and it uses nothing.
+// The lowest layer: all crates but `digits` and `input` use it, and it uses nothing.
 
 ghost use mathlib.Core.Path.{_≡_};
 ghost use Prim.Native.Nat.{_+_, _*_, _<_, _≤_};
@@ -56,7 +56,7 @@ pub fn put_word(s: &mut [u8], i: usize, x: u32)
     s[at + 3] = (x / 16777216 % 256) as u8;
 }
 
-// The layout test that all files share: the n pairs at the front, and the bodies that they claim.
+// What the n pairs at the front of a file say of its bodies; `laid_out`, the layout test of tables and records, asks it.
 pub fn read_bodies(s: &[u8], n: usize) -> Bodies
     requires { ⌜ 8 * n ≤ length (now s) ⌝ }
     ensures { λ r. ⌜ r ≡ bodiesOf n (now (s .entry)) ⌝ }

@@ -1,4 +1,4 @@
--- `net::look::input` meets its contract: the input place of a kind, out of the look-up word. Assumes nothing.
+-- `look::input` meets its contract: the input place of a kind, out of the look-up word. Assumes nothing.
 use native.Mathlib.Omega.{arith}
 use borrow.Author.Needs.{needs}
 use Rattle.net.proofs.HeldLaws.{held-loaded, index-some, input-in}

@@ -1,4 +1,4 @@
--- `net::look::takes_kind` meets its contract: the look-up word is 0 just where the activity takes none of the kind.
+-- `look::takes_kind` meets its contract: the look-up word is 0 just where the activity takes none of the kind.
 -- Assumes nothing.
 use Prim.Native.Nat.{ℕ, _+_, _*_}
 use mathlib.Core.Bool.{Bool, true, false, not}

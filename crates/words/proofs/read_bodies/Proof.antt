@@ -1,3 +1,4 @@
+-- The loop keeps what is left: the bodies from pair i on, which are to start at `end`. Assumes nothing.
 use Prim.Native.Nat.{_-_, _*_, _≤_}
 use mathlib.Core.Path.{_≡_, refl, sym, _∙_}
 use native.Mathlib.Nat.{sub-zero}
@@ -7,9 +8,6 @@ use Rattle.words.specs.Words.{bodiesFrom, bodiesOf}
 use Rattle.words.proofs.Words.{bodies-more, bodies-gap, bodies-end}
 use Rattle.words.proofs.read_bodies.Statement.{statement}
 use Rattle.words.proofs.read_bodies.Tie as tie
-use Rattle.words.proofs.read_bodies.Reads as reads
-use Rattle.words.proofs.read_bodies.Lts as lts
-use Rattle.words.proofs.word_at.Reads as word-at-reads
 
 abbrev Inv-loop : tie.InvT-loop
 Inv-loop s n end₀ i₀ end i = (i ≤ n) × (bodiesFrom s (8 * i) end (n - i) ≡ bodiesOf n s)
@@ -17,58 +15,45 @@ Inv-loop s n end₀ i₀ end i = (i ≤ n) × (bodiesFrom s (8 * i) end (n - i) 
 abbrev μ-loop : tie.MeasureT-loop
 μ-loop s n end₀ i₀ end i = n - i
 
--- src/lib.rt:57:20
 mul-end : tie.Need-mul-end Inv-loop μ-loop
 mul-end c = search needs
 
--- src/lib.rt:59:5
 loop-holds : tie.Need-loop-holds Inv-loop μ-loop
 unfolding bodiesOf
 loop-holds c = (omega arith, rw sub-zero refl)
 
--- src/lib.rt:60:18
 mul-at : tie.Need-mul-at Inv-loop μ-loop
 mul-at c = search needs
 
--- src/lib.rt:61:13
 word-at-requires : tie.Need-word-at-requires Inv-loop μ-loop
 word-at-requires c κs = search needs
 
--- src/lib.rt:61:13
 cast-if1 : tie.Need-cast-if1 Inv-loop μ-loop
 cast-if1 c = search needs
 
--- src/lib.rt:62:13
 returns : tie.Need-returns Inv-loop μ-loop
 returns c =
     let l = c .before .before .before .loop in
     bodies-gap _ _ _ _ (c .before .before .loop-test .taken) (λ e. c .if1 .taken (c .before .word-at .ensures ∙ e)) ∙ l .inv .1
 
--- src/lib.rt:64:27
 add-word-at : tie.Need-add-word-at Inv-loop μ-loop
 add-word-at c = search needs
 
--- src/lib.rt:64:16
 word-at-requires-2 : tie.Need-word-at-requires-2 Inv-loop μ-loop
 word-at-requires-2 c κs = search needs
 
--- src/lib.rt:64:16
 cast-end : tie.Need-cast-end Inv-loop μ-loop
 cast-end c = search needs
 
--- src/lib.rt:64:9
 add-end : tie.Need-add-end Inv-loop μ-loop
 add-end c = omega (arith, c .before .if1 .left, c .before .before .word-at .ok)
 
--- src/lib.rt:65:9
 add-i : tie.Need-add-i Inv-loop μ-loop
 add-i c = search needs
 
--- src/lib.rt:59:5
 loop-less : tie.Need-loop-less Inv-loop μ-loop
 loop-less c = search needs
 
--- src/lib.rt:59:5
 loop-again : tie.Need-loop-again Inv-loop μ-loop
 loop-again c = (
   omega arith,
@@ -76,7 +61,6 @@ loop-again c = (
       rw (c .word-at2 .ensures) (bodies-more _ _ _ _ (c .before .before .before .loop-test .taken) (sym (c .before .before .word-at .ensures) ∙ c .before .if1 .left) ∙ l .inv .1),
 )
 
--- src/lib.rt:53:1
 returns-2 : tie.Need-returns-2 Inv-loop μ-loop
 returns-2 c = bodies-end _ _ _ _ (c .loop-test .left) ∙ c .before .loop .inv .1
 

@@ -1,113 +1,70 @@
--- Each word is copied from its bytes. Assumes nothing.
-use mathlib.Core.Path.{ap}
-use lib.ListN.{length}
+-- The word is a part of the bytes of all words, and is copied from there. Assumes nothing.
+use Prim.Native.Nat.{ℕ, _+_, _-_}
+use mathlib.Core.Path.{_≡_, ap, subst, _∙_}
+use mathlib.Core.List.{List, _++_}
 use native.Mathlib.Omega.{arith}
+use lib.ListN.{length, take, drop}
+use lib.Seq.{take-all}
+use Rattle.words.specs.Lists.{over}
+use Rattle.text.specs.Text.{ascii}
 use Rattle.text.specs.Fields.{wordText}
 use borrow.Author.Needs.{needs}
 use Rattle.text.proofs.field.put_word.Statement.{statement}
 use Rattle.text.proofs.field.put_word.Tie as tie
 
-enum-told : tie.Need-enum-told
-enum-told c = search needs
+slice-aggregate-all : tie.Need-slice-aggregate-all
+slice-aggregate-all c = search needs
 
-slice-aggregate-copy : tie.Need-slice-aggregate-copy
-slice-aggregate-copy c = search needs
+word-start-requires : tie.Need-word-start-requires
+word-start-requires c κs = search needs
+
+word-width-requires : tie.Need-word-width-requires
+word-width-requires c κs = search needs
+
+add-end : tie.Need-add-end
+add-end c = search needs
+
+sub-copy : tie.Need-sub-copy
+sub-copy c = search needs
+
+part-copy-start : tie.Need-part-copy-start
+part-copy-start c = search needs
+
+part-copy-end : tie.Need-part-copy-end
+part-copy-end c = search needs
 
 copy-requires : tie.Need-copy-requires
-copy-requires c κs = omega (arith, ap (λ w. length (wordText w)) (c .before .before .enum-told .given .1))
-
-enum-told-2 : tie.Need-enum-told-2
-enum-told-2 c = search needs
-
-slice-aggregate-copy-2 : tie.Need-slice-aggregate-copy-2
-slice-aggregate-copy-2 c = search needs
-
-copy-requires-2 : tie.Need-copy-requires-2
-copy-requires-2 c κs = omega (arith, ap (λ w. length (wordText w)) (c .before .before .enum-told2 .given .1))
-
-enum-told-3 : tie.Need-enum-told-3
-enum-told-3 c = search needs
-
-slice-aggregate-copy-3 : tie.Need-slice-aggregate-copy-3
-slice-aggregate-copy-3 c = search needs
-
-copy-requires-3 : tie.Need-copy-requires-3
-copy-requires-3 c κs = omega (arith, ap (λ w. length (wordText w)) (c .before .before .enum-told3 .given .1))
-
-enum-told-4 : tie.Need-enum-told-4
-enum-told-4 c = search needs
-
-slice-aggregate-copy-4 : tie.Need-slice-aggregate-copy-4
-slice-aggregate-copy-4 c = search needs
-
-copy-requires-4 : tie.Need-copy-requires-4
-copy-requires-4 c κs = omega (arith, ap (λ w. length (wordText w)) (c .before .before .enum-told4 .given .1))
-
-enum-told-5 : tie.Need-enum-told-5
-enum-told-5 c = search needs
-
-slice-aggregate-copy-5 : tie.Need-slice-aggregate-copy-5
-slice-aggregate-copy-5 c = search needs
-
-copy-requires-5 : tie.Need-copy-requires-5
-copy-requires-5 c κs = omega (arith, ap (λ w. length (wordText w)) (c .before .before .enum-told5 .given .1))
+copy-requires c κs = search needs
 
 same-length : tie.Need-same-length
 same-length c = search needs
 
+-- bytes that are the word, copied to the start of lent bytes
+copied : (word src lent left : List ℕ) (n : ℕ) → src ≡ word → n ≡ length src → left ≡ take (length src) src ++ drop (length src) lent
+    → (n ≡ length word) × (left ≡ over word lent)
+copied word src lent left n e f g =
+    (f ∙ ap length e, g ∙ ap (λ (l : List ℕ). l ++ drop (length src) lent) (take-all (length src) src (omega arith)) ∙ ap (λ (x : List ℕ). over x lent) e)
+
 returns : tie.Need-returns
-returns c = rw (c .before .before .before .before .before .enum-told .given .1) (c .before .before .copy .ensures)
-
-same-length-2 : tie.Need-same-length-2
-same-length-2 c = search needs
-
-returns-2 : tie.Need-returns-2
-returns-2 c = rw (c .before .before .before .before .before .enum-told2 .given .1) (c .before .before .copy2 .ensures)
-
-same-length-3 : tie.Need-same-length-3
-same-length-3 c = search needs
-
-returns-3 : tie.Need-returns-3
-returns-3 c = rw (c .before .before .before .before .before .enum-told3 .given .1) (c .before .before .copy3 .ensures)
-
-same-length-4 : tie.Need-same-length-4
-same-length-4 c = search needs
-
-returns-4 : tie.Need-returns-4
-returns-4 c = rw (c .before .before .before .before .before .enum-told4 .given .1) (c .before .before .copy4 .ensures)
-
-same-length-5 : tie.Need-same-length-5
-same-length-5 c = search needs
-
-returns-5 : tie.Need-returns-5
-returns-5 c = rw (c .before .before .before .before .before .enum-told5 .given .1) (c .before .before .copy5 .ensures)
+returns c =
+    let k = c .before .before .copy in
+    let s = c .before .before .before .before .before .before .word-start in
+    let v = c .before .before .before .before .before .word-width in
+    let z : s .result + v .result - s .result ≡ length (wordText (c .before .before .before .before .before .before .before .before .before .args .w)) = omega (arith, v .ensures .0) in
+    copied (wordText (c .before .before .before .before .before .before .before .before .before .args .w)) (take (s .result + v .result - s .result) (drop (s .result) (ascii "trailplaceactjumprefused"))) (c .before .before .before .before .before .before .before .before .before .args .out .now) _ _
+    (ap (λ (n : ℕ). take n (drop (s .result) (ascii "trailplaceactjumprefused"))) z ∙ s .ensures .1) (k .ensures .0) (k .ensures .1)
 
 pub put-word-spec : {M : Type 1} → statement M
 put-word-spec =
     tie.close
     (tie.spec
-    enum-told
-    slice-aggregate-copy
+    slice-aggregate-all
+    word-start-requires
+    word-width-requires
+    add-end
+    sub-copy
+    part-copy-start
+    part-copy-end
     copy-requires
-    enum-told-2
-    slice-aggregate-copy-2
-    copy-requires-2
-    enum-told-3
-    slice-aggregate-copy-3
-    copy-requires-3
-    enum-told-4
-    slice-aggregate-copy-4
-    copy-requires-4
-    enum-told-5
-    slice-aggregate-copy-5
-    copy-requires-5
     same-length
-    returns
-    same-length-2
-    returns-2
-    same-length-3
-    returns-3
-    same-length-4
-    returns-4
-    same-length-5
-    returns-5)
+    returns)
