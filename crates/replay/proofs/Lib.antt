@@ -2,6 +2,7 @@ pub mod Accepted
 pub mod Agree
 pub mod Calls
 pub mod Encode
+pub mod Entry
 pub mod Interleave
 pub mod Keep
 mod ObjectLaws
