@@ -7,6 +7,7 @@ pub mod Interleave
 pub mod Keep
 mod ObjectLaws
 mod PairLaws
+pub mod Order
 pub mod Permit
 pub mod RecordLaws
 pub mod Records
@@ -15,3 +16,4 @@ pub mod Rows
 pub mod Simulate
 pub mod Tally
 pub mod Theorems
+pub mod Within

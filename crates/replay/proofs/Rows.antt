@@ -4,4 +4,4 @@ use Rattle.replay.specs.Rows.{M, RowsHold}
 
 pub rows-hold : RowsHold M
 unfolding M
-rows-hold = (refl, (refl, (refl, (refl, (refl, (refl, tt))))))
+rows-hold = (refl, (refl, (refl, (refl, (refl, (refl, (refl, (refl, tt))))))))

@@ -1,4 +1,4 @@
--- Document 01's trails T3, T4 and T6 to T10 on table M, as rows with one claim for all.
+-- Document 01's trails T3, T4 and T6 to T10 on table M, and two with two jumps in one event, as rows with one claim for all.
 use Prim.Native.Nat.{ℕ, _*_, _/_, _%_}
 use mathlib.Core.Bool.{not}
 use mathlib.Core.Path.{_≡_}
@@ -74,6 +74,21 @@ awarded os = record {
   };
 }
 
+-- two objects jump in one event: the award right after the start, with its objects in either order
+abbrev pub bothJump : List ℕ → Row
+bothJump os = record {
+  kinds = three;
+  asks = ev 2 os ∷ close ∷ [];
+  shows = record {
+    answered = 0 ∷ 0 ∷ [];
+    stands = 2 ∷ 5 ∷ 5 ∷ [];
+    trail = 1 ∷ 4 ∷ 5 ∷ [];
+    ofPlaces = (0 ∷ 0 ∷ 1 ∷ []) ∷ (1 ∷ 1 ∷ 1 ∷ []) ∷ (1 ∷ 1 ∷ 0 ∷ []) ∷ (0 ∷ 0 ∷ 2 ∷ []) ∷ (1 ∷ 1 ∷ 0 ∷ []) ∷ (2 ∷ 1 ∷ 0 ∷ []) ∷ [];
+    ofActs = (0 ∷ 0 ∷ 0 ∷ []) ∷ (0 ∷ 0 ∷ 0 ∷ []) ∷ (1 ∷ 2 ∷ 2 ∷ []) ∷ (0 ∷ 0 ∷ 0 ∷ []) ∷ [];
+    ofPairs = (0 ∷ 1 ∷ 1 ∷ []) ∷ (1 ∷ 2 ∷ 1 ∷ []) ∷ (3 ∷ 4 ∷ 1 ∷ []) ∷ (3 ∷ 5 ∷ 1 ∷ []) ∷ [];
+  };
+}
+
 abbrev pub rows : List Row
 rows =
     -- T3
@@ -131,6 +146,9 @@ rows =
         ofPairs = (1 ∷ 2 ∷ 1 ∷ []) ∷ (3 ∷ 5 ∷ 1 ∷ []) ∷ [];
       };
     }
+    -- a miscount that was met: one jump per event where two objects jumped
+    ∷ bothJump (0 ∷ 1 ∷ [])
+    ∷ bothJump (1 ∷ 0 ∷ [])
     ∷ []
 
 -- the claim: on the net N, each row shows what it is to show
