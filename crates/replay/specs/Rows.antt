@@ -7,7 +7,8 @@ use lib.ListN.{length, getD}
 use lib.Dec.{eqb}
 use Rattle.words.specs.Lists.{All, keep, upto}
 use Rattle.net.specs.Net.{Net}
-use Rattle.replay.specs.Plain.{Ask, event, close, Plain, start, run, answers, positions}
+use Rattle.replay.specs.Plain.{Event, Ask, event, close, Plain, start, run, answers, positions}
+use Rattle.replay.specs.Permitted.{Permitted}
 use Rattle.replay.specs.Counts.{transfers, allJumps, consumed, jumpsIn, jumpsOut, pairJumps, fired, moved, jumps}
 
 -- table M as a net: kind 0 script on places 0 to 2, kind 1 sheet on places 3 to 5
@@ -154,3 +155,19 @@ rows =
 -- the claim: on the net N, each row shows what it is to show
 abbrev pub RowsHold : Net → Type 0
 RowsHold N = All (λ (r : Row). shown N (r .kinds) (r .asks) ≡ r .shows) rows
+
+-- the rows of T3 and T4, and a row's events
+abbrev pub third : Row
+third = getD rows 0 (awarded [])
+
+abbrev pub fourth : Row
+fourth = getD rows 1 (awarded [])
+
+abbrev pub eventsOf : List Ask → List Event
+eventsOf [] = []
+eventsOf (event e ∷ qs) = e ∷ eventsOf qs
+eventsOf (close ∷ qs) = eventsOf qs
+
+-- the claim: from the sources, a script's and two sheets', T3's events are a permitted run and T4's are not
+abbrev pub PermittedRows : Net → Type 0
+PermittedRows N = Permitted N three (0 ∷ 3 ∷ 3 ∷ []) (eventsOf (third .asks)) × (Permitted N three (0 ∷ 3 ∷ 3 ∷ []) (eventsOf (fourth .asks)) → ⊥)
