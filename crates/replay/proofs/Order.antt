@@ -176,5 +176,5 @@ module _ (b : List ℕ) (a : ℕ) {os qs : List ℕ} (p : Permuted os qs) where
       go true e = ap (encode (tableIn b)) (accept-same (netAt b) (stateAt b) a p (eqb-true _ _ e))
       go false e = refl
 
-pub same-event : (a : ℕ) {os qs : List ℕ} → Permuted os qs → SameEvent a os qs
-same-event a p = record { answer = λ N d. answer-same N d a p; state = λ N d. state-same N d a p; code = λ b. code-same b a p; bytes = λ b. bytes-same b a p }
+pub order-free : (a : ℕ) (os qs : List ℕ) → Permuted os qs → SameEvent a os qs
+order-free a os qs p = record { answer = λ N d. answer-same N d a p; state = λ N d. state-same N d a p; code = λ b. code-same b a p; bytes = λ b. bytes-same b a p }

@@ -1,6 +1,6 @@
 -- What is claimed of the replay, beside the contracts: its stored counts (demand 2), what an event and a close do at once, that
--- the order of an event's objects is free, and that no count of jumps exceeds what it is a part of. The proofs are cited by
--- name in `proofs/Theorems.antt`.
+-- the order of an event's objects is free, and that no count of jumps exceeds what it is a part of. They are proved in
+-- `proofs/Theorems.antt`, `Order.antt` and `Within.antt`.
 use Prim.Native.Nat.{ℕ, _+_, _-_, _≤_, _<_}
 use mathlib.Core.Path.{_≡_}
 use mathlib.Core.List.{List, _∷_, map}
