@@ -12,11 +12,11 @@ use Rattle.net.specs.Net.{Net}
 use Rattle.net.specs.Held.{netIn}
 use Rattle.replay.specs.Plain.{Hop, jumped, hops, walked, ending}
 use Rattle.replay.specs.State.{State, bump, tally, hopIndex, afterClose}
-use Rattle.replay.specs.Record.{tableIn}
+use Rattle.replay.specs.Record.{recordWords, tableIn}
 use Rattle.replay.specs.Calls.{stateAt}
 use Rattle.replay.specs.Offsets.{layoutOf}
 use Rattle.replay.specs.Ready.{Ready}
-use Rattle.moves.specs.Moves.{raise, jumpsTo, goWords, numbersOf}
+use Rattle.moves.specs.Moves.{raise, jumpsTo, goWords}
 use Rattle.closing.specs.Sunk.{sunkState}
 use Rattle.replay.specs.declared.layout.Layout.{Layout}
 use Rattle.replay.proofs.Tally.{length-tally}
@@ -92,9 +92,9 @@ module _ (N : Net) (table : List ℕ) (l : Layout) (b : ℕ) (ks : List ℕ) (go
   nothing d = let z : d .closing + 0 ≡ d .closing = omega arith in
       ap {B = State} (λ (n : ℕ). record { kinds = d .kinds; places = d .places; closed = d .closed; events = d .events; closing = n; fired = d .fired; jumps = d .jumps; pairs = d .pairs }) z
 
-  pub sink-end : n ≤ o → raise w (l .counts + 2) s ≡ numbersOf table goal
+  pub sink-end : n ≤ o → raise w (l .counts + 2) s ≡ recordWords table goal
   sink-end h = let z : n - o ≡ 0 = omega arith in
-      T .sum .walk .words ∙ ap (numbersOf table) (sym (nothing (T .state)) ∙ sym (ap (λ (j : ℕ). sunkState N (T .state) (upto j o)) z) ∙ T .left)
+      T .sum .walk .words ∙ ap (recordWords table) (sym (nothing (T .state)) ∙ sym (ap (λ (j : ℕ). sunkState N (T .state) (upto j o)) z) ∙ T .left)
 
 -- an object's sink is a known place
 pub sink-of-in : (w b : List ℕ) (l : Layout) (R : Ready w b) (e : l ≡ layoutOf (netIn w) b)
@@ -113,12 +113,12 @@ module _ (w b : List ℕ) (l : Layout) (R : Ready w b) (e : l ≡ layoutOf (netI
   placed = placed-same (netIn w) (tableIn b) l d (sunkState (netIn w) d all) (placed-at w b l R e) refl (length-walked (map (ending (netIn w) (d .kinds)) all) (d .places)) refl refl
       (length-tally (map (hopIndex (netIn w)) (keep jumped (hops (d .places) (map (ending (netIn w) (d .kinds)) all)))) (d .pairs))
 
-  pub can-close : l .counts < length (numbersOf (tableIn b) (sunkState (netIn w) d all))
+  pub can-close : l .counts < length (recordWords (tableIn b) (sunkState (netIn w) d all))
   can-close = omega (arith, record-size (netIn w) (tableIn b) l (sunkState (netIn w) d all) placed, placed .jumps-at)
 
-  pub closed-numbers : d .closed ≡ 0 → set (numbersOf (tableIn b) (sunkState (netIn w) d all)) (l .counts) 1 ≡ numbersOf (tableIn b) (afterClose (netIn w) d)
+  pub closed-numbers : d .closed ≡ 0 → set (recordWords (tableIn b) (sunkState (netIn w) d all)) (l .counts) 1 ≡ recordWords (tableIn b) (afterClose (netIn w) d)
   closed-numbers c =
       let hs = keep jumped (hops (d .places) (map (ending (netIn w) (d .kinds)) all)) in
       let z : d .closing + length hs ≡ length hs = omega (arith, ready-sound w b R .closing-open c) in
       put-closed (netIn w) (tableIn b) l (sunkState (netIn w) d all) placed 1
-      ∙ ap (λ (n : ℕ). numbersOf (tableIn b) (record { kinds = d .kinds; places = walked (d .places) (map (ending (netIn w) (d .kinds)) all); closed = 1; events = d .events; closing = n; fired = d .fired; jumps = d .jumps; pairs = tally (d .pairs) (map (hopIndex (netIn w)) hs) })) z
+      ∙ ap (λ (n : ℕ). recordWords (tableIn b) (record { kinds = d .kinds; places = walked (d .places) (map (ending (netIn w) (d .kinds)) all); closed = 1; events = d .events; closing = n; fired = d .fired; jumps = d .jumps; pairs = tally (d .pairs) (map (hopIndex (netIn w)) hs) })) z

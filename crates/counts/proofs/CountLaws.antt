@@ -18,11 +18,11 @@ use Rattle.net.specs.Net.{Net, Arc, Loaded, takes, arcOf, inputOf}
 use Rattle.net.specs.Held.{netIn}
 use Rattle.replay.specs.declared.layout.Layout.{Layout}
 use Rattle.replay.specs.State.{State, inputs, storedPair, storedMoved}
-use Rattle.replay.specs.Record.{tableIn}
+use Rattle.replay.specs.Record.{recordWords, tableIn}
 use Rattle.replay.specs.Calls.{stateAt}
 use Rattle.replay.specs.Offsets.{layoutOf}
 use Rattle.replay.specs.Ready.{Ready}
-use Rattle.replay.proofs.Encode.{recordWords, fired-le, jumps-le, pairs-le}
+use Rattle.replay.proofs.Encode.{fired-le, jumps-le, pairs-le}
 use Rattle.replay.proofs.RecordLaws.{Placed, record-size, record-few, get-kind, get-closed, get-events, get-closing, get-fired, get-jumps, get-pair, ready-loaded, ready-sound, ready-words, ready-placed}
 
 -- sums

@@ -11,8 +11,8 @@ use Rattle.words.specs.Lists.{pick, keep}
 use Rattle.net.specs.Net.{Net, inputOf, outputOf}
 use Rattle.replay.specs.Plain.{Hop, jumped, hops, walked, leg}
 use Rattle.replay.specs.State.{State, bump, tally, hopIndex}
-use Rattle.replay.specs.Record.{counts}
-use Rattle.moves.specs.Moves.{raise, jumpsTo, goWords, numbersOf}
+use Rattle.replay.specs.Record.{counts, recordWords}
+use Rattle.moves.specs.Moves.{raise, jumpsTo, goWords}
 use Rattle.events.specs.Moved.{movedState}
 use Rattle.replay.specs.declared.layout.Layout.{Layout}
 use Rattle.replay.proofs.RecordLaws.{withJumps}
@@ -83,5 +83,5 @@ module _ (N : Net) (table : List ℕ) (l : Layout) (b a : ℕ) (ks os : List ℕ
             (moved-first N d a o (drop (i + 1) os) ∙ rw add-one (ap (movedState N d a) (sym (drop-cons os i 0 h)) ∙ T .left));
       }
 
-  pub step-end : length os ≤ i → raise w (l .counts + (4 + 2 * a)) s ≡ numbersOf table goal
-  step-end h = T .sum .walk .words ∙ ap (numbersOf table) (sym (ap (movedState N (T .state) a) (drop-of-length-le os h)) ∙ T .left)
+  pub step-end : length os ≤ i → raise w (l .counts + (4 + 2 * a)) s ≡ recordWords table goal
+  step-end h = T .sum .walk .words ∙ ap (recordWords table) (sym (ap (movedState N (T .state) a) (drop-of-length-le os h)) ∙ T .left)

@@ -8,11 +8,11 @@ use Rattle.words.specs.Lists.{keep}
 use Rattle.net.specs.Held.{netIn}
 use Rattle.replay.specs.Plain.{Hop, jumped, hops, leg}
 use Rattle.replay.specs.State.{State, bump, hopIndex, afterEvent, answerS}
-use Rattle.replay.specs.Record.{tableIn}
+use Rattle.replay.specs.Record.{recordWords, tableIn}
 use Rattle.replay.specs.Calls.{stateAt}
 use Rattle.replay.specs.Offsets.{layoutOf}
 use Rattle.replay.specs.Ready.{Ready}
-use Rattle.moves.specs.Moves.{numbersOf, CanAdd}
+use Rattle.moves.specs.Moves.{CanAdd}
 use Rattle.events.specs.Moved.{movedState}
 use Rattle.events.specs.Answers.{askEvent, Moving}
 use Rattle.replay.specs.declared.layout.Layout.{Layout}
@@ -39,24 +39,24 @@ module _ (w b : List ℕ) (l : Layout) (a : ℕ) (os : List ℕ) (M : Moving w b
   placed-events = placed-same (netIn w) (tableIn b) l m (withEvents m (suc (d .events))) placed refl refl refl refl refl
 
   -- the event is counted
-  events-more : bump (numbersOf (tableIn b) m) (l .counts + 1) ≡ numbersOf (tableIn b) (withEvents m (suc (d .events)))
-  events-more = ap (λ (v : ℕ). set (numbersOf (tableIn b) m) (l .counts + 1) (suc v)) (get-events (netIn w) (tableIn b) l m placed) ∙ put-events (netIn w) (tableIn b) l m placed (suc (d .events))
+  events-more : bump (recordWords (tableIn b) m) (l .counts + 1) ≡ recordWords (tableIn b) (withEvents m (suc (d .events)))
+  events-more = ap (λ (v : ℕ). set (recordWords (tableIn b) m) (l .counts + 1) (suc v)) (get-events (netIn w) (tableIn b) l m placed) ∙ put-events (netIn w) (tableIn b) l m placed (suc (d .events))
 
-  fired-more : bump (numbersOf (tableIn b) (withEvents m (suc (d .events)))) (l .counts + (3 + 2 * a)) ≡ numbersOf (tableIn b) (afterEvent (netIn w) d (record { act = a; objs = os }))
+  fired-more : bump (recordWords (tableIn b) (withEvents m (suc (d .events)))) (l .counts + (3 + 2 * a)) ≡ recordWords (tableIn b) (afterEvent (netIn w) d (record { act = a; objs = os }))
   fired-more =
-      ap (λ (v : ℕ). set (numbersOf (tableIn b) (withEvents m (suc (d .events)))) (l .counts + (3 + 2 * a)) (suc v)) (get-fired (netIn w) (tableIn b) l (withEvents m (suc (d .events))) placed-events a (M .counted .act-in))
+      ap (λ (v : ℕ). set (recordWords (tableIn b) (withEvents m (suc (d .events)))) (l .counts + (3 + 2 * a)) (suc v)) (get-fired (netIn w) (tableIn b) l (withEvents m (suc (d .events))) placed-events a (M .counted .act-in))
       ∙ put-fired (netIn w) (tableIn b) l (withEvents m (suc (d .events))) placed-events a (suc (getD (d .fired) a 0)) (M .counted .act-in)
 
-  pub event-counted : bump (bump (numbersOf (tableIn b) m) (l .counts + 1)) (l .counts + (3 + 2 * a)) ≡ numbersOf (tableIn b) (afterEvent (netIn w) d (record { act = a; objs = os }))
+  pub event-counted : bump (bump (recordWords (tableIn b) m) (l .counts + 1)) (l .counts + (3 + 2 * a)) ≡ recordWords (tableIn b) (afterEvent (netIn w) d (record { act = a; objs = os }))
   event-counted = ap (λ (v : List ℕ). bump v (l .counts + (3 + 2 * a))) events-more ∙ fired-more
 
-  pub can-events : CanAdd (l .counts + 1) 1 (numbersOf (tableIn b) m)
+  pub can-events : CanAdd (l .counts + 1) 1 (recordWords (tableIn b) m)
   can-events = record {
     inside = omega (arith, record-size (netIn w) (tableIn b) l m placed, placed .jumps-at);
     room = omega (arith, get-events (netIn w) (tableIn b) l m placed, ready-sound w b (M .counted .ready) .events);
   }
 
-  pub can-fired : CanAdd (l .counts + (3 + 2 * a)) 1 (bump (numbersOf (tableIn b) m) (l .counts + 1))
+  pub can-fired : CanAdd (l .counts + (3 + 2 * a)) 1 (bump (recordWords (tableIn b) m) (l .counts + 1))
   can-fired = let R = M .counted .ready in let h = M .counted .act-in in rw events-more (record {
     inside = omega (arith, record-size (netIn w) (tableIn b) l (withEvents m (suc (d .events))) placed-events, placed .jumps-at);
     room = omega (arith, get-fired (netIn w) (tableIn b) l (withEvents m (suc (d .events))) placed-events a h, fired-le (netIn w) (ready-loaded w b R) d (ready-sound w b R) a h);

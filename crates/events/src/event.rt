@@ -16,11 +16,10 @@ ghost use Rattle.words.specs.Words.{wordsOf};
 ghost use Rattle.net.specs.Held.{netIn};
 ghost use Rattle.replay.specs.Plain.{kindsOf, objectTests};
 ghost use Rattle.replay.specs.State.{answerS, afterEvent};
-ghost use Rattle.replay.specs.Record.{tableIn};
+ghost use Rattle.replay.specs.Record.{tableIn, recordWords};
 ghost use Rattle.replay.specs.Calls.{stateAt, askCode, askBytes};
 ghost use Rattle.replay.specs.Offsets.{layoutOf};
 ghost use Rattle.replay.specs.Ready.{Ready};
-ghost use Rattle.moves.specs.Moves.{numbersOf};
 ghost use Rattle.events.specs.Answers.{eventCode, askEvent, ObjectCode, Counted, Moving, Kinds};
 ghost use Rattle.events.specs.Moved.{movedState};
 
@@ -130,7 +129,7 @@ fn step_objects(
 )
     requires { ⌜ Moving (now t) (now rec) lay act (wordsOf (now objs)) ⌝ }
     requires { ⌜ Kinds (now rec) (wordsOf (now objs)) (now kinds) ⌝ }
-    ensures { λ _. ⌜ wordsOf (now (rec .exit)) ≡ numbersOf (tableIn (now (rec .entry))) (movedState (netIn (now (t .entry))) (stateAt (now (rec .entry))) act (wordsOf (now (objs .entry)))) ⌝ }
+    ensures { λ _. ⌜ wordsOf (now (rec .exit)) ≡ recordWords (tableIn (now (rec .entry))) (movedState (netIn (now (t .entry))) (stateAt (now (rec .entry))) act (wordsOf (now (objs .entry)))) ⌝ }
 {
     let n = objs.len() / 4;
     let mut done = 0;
@@ -157,7 +156,7 @@ fn take_event(
 )
     requires { ⌜ Moving (now t) (now rec) lay act (wordsOf (now objs)) ⌝ }
     requires { ⌜ Kinds (now rec) (wordsOf (now objs)) (now kinds) ⌝ }
-    ensures { λ _. ⌜ wordsOf (now (rec .exit)) ≡ numbersOf (tableIn (now (rec .entry))) (afterEvent (netIn (now (t .entry))) (stateAt (now (rec .entry))) (record { act = act; objs = wordsOf (now (objs .entry)) })) ⌝ }
+    ensures { λ _. ⌜ wordsOf (now (rec .exit)) ≡ recordWords (tableIn (now (rec .entry))) (afterEvent (netIn (now (t .entry))) (stateAt (now (rec .entry))) (record { act = act; objs = wordsOf (now (objs .entry)) })) ⌝ }
 {
     step_objects(rec, t, lay, act, objs, kinds);
     add_one(rec, lay.counts + 1);

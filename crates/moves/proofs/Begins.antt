@@ -8,7 +8,7 @@ use Rattle.words.specs.Lists.{All}
 use Rattle.words.specs.Words.{wordsOf}
 use Rattle.words.proofs.Lists.{All-append, All-of}
 use Rattle.net.specs.Held.{netIn}
-use Rattle.replay.specs.Record.{counts, tableIn}
+use Rattle.replay.specs.Record.{counts, recordWords, tableIn}
 use Rattle.replay.specs.Calls.{stateAt}
 use Rattle.replay.specs.Offsets.{layoutOf}
 use Rattle.replay.specs.Ready.{Ready}
@@ -16,7 +16,6 @@ use Rattle.replay.specs.declared.layout.Layout.{Layout}
 use Rattle.replay.proofs.Interleave.{All-interleave}
 use Rattle.replay.proofs.Encode.{fired-le, jumps-le, pairs-le}
 use Rattle.replay.proofs.RecordLaws.{Placed, get-place, get-tail, ready-loaded, ready-sound, ready-words}
-use Rattle.moves.specs.Moves.{numbersOf}
 use Rattle.moves.proofs.Layouts.{placed-at}
 use Rattle.moves.proofs.Walk.{Walk}
 
@@ -56,5 +55,5 @@ module _ (w b : List ℕ) (l : Layout) (R : Ready w b) (e : l ≡ layoutOf (netI
       P : Placed (netIn w) (tableIn b) l (stateAt b)
       P = placed-at w b l R e
 
-      far : (j i : ℕ) → j ≡ l .counts + i → getD (numbersOf (tableIn b) (stateAt b)) j 0 < 8001025
+      far : (j i : ℕ) → j ≡ l .counts + i → getD (recordWords (tableIn b) (stateAt b)) j 0 < 8001025
       far j i q = rw (q, get-tail (netIn w) (tableIn b) l (stateAt b) P i) (all-below 8001025 (counts (stateAt b) ++ stateAt b .pairs) (omega arith) tail-few i)

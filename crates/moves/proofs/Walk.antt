@@ -14,9 +14,9 @@ use Rattle.words.specs.Lists.{pick}
 use Rattle.net.specs.Net.{Net}
 use Rattle.replay.specs.Plain.{Leg, walked}
 use Rattle.replay.specs.State.{State, bump}
+use Rattle.replay.specs.Record.{recordWords}
 use Rattle.moves.specs.Moves.{placeAt, pairAt, raise, jumpsTo, goWords, CanAdd, CanMove}
 use Rattle.replay.specs.declared.layout.Layout.{Layout}
-use Rattle.replay.proofs.Encode.{recordWords}
 use Rattle.replay.proofs.RecordLaws.{Placed, placed-same, withPlaces, withPairs, withJumps, withClosing, record-size, record-few, get-kind, get-place, get-pair, get-jumps, get-closing, put-place, put-pair, put-jumps, put-closing}
 
 -- a jump from p to q is counted at the pair and at number `own`; where p is q there is none

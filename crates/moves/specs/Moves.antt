@@ -1,17 +1,10 @@
 -- What moving an object does to a record, as a list of four-byte numbers, and what it asks of the record.
 use Prim.Native.Nat.{ℕ, _+_, _*_, _≤_, _<_}
-use mathlib.Core.List.{List, _++_}
+use mathlib.Core.List.{List}
 use lib.ListN.{length, getD, set}
 use lib.Dec.{eqb}
 use Rattle.words.specs.Lists.{pick}
-use Rattle.words.specs.Words.{wordsOf}
-use Rattle.replay.specs.State.{State}
-use Rattle.replay.specs.Record.{counts, contents}
 use Rattle.replay.specs.declared.layout.Layout.{Layout}
-
--- the record of a table of whole numbers and a state, as numbers
-abbrev pub numbersOf : List ℕ → State → List ℕ
-numbersOf table d = contents table d ++ (wordsOf table ++ (d .kinds ++ (d .places ++ (counts d ++ d .pairs))))
 
 -- where the place of object o stands, and the jump count of the pair (p, q)
 abbrev pub placeAt : Layout → ℕ → ℕ

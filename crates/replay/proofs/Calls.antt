@@ -20,6 +20,15 @@ use Rattle.replay.proofs.Keep.{sound-ask}
 use Rattle.replay.proofs.Encode.{table-encode, state-encode, intact-encode}
 use Rattle.replay.proofs.RecordLaws.{ready-loaded}
 
+-- an event or a close on an intact trail, accepted or refused, leaves the record of the same table and of the state after it
+pub ask-encode : (b : List ℕ) → Intact (netAt b) b → (q : Ask) → askBytes b q ≡ encode (tableIn b) (askS (netAt b) (stateAt b) q)
+unfolding askBytes askCode stateAt
+ask-encode b I q = go (eqb (answerS (netAt b) (stateAt b) q) 0)
+  where
+    go : (t : Bool) → pick t (encode (tableIn b) (acceptS (netAt b) (stateAt b) q)) b ≡ encode (tableIn b) (pick t (acceptS (netAt b) (stateAt b) q) (stateAt b))
+    go true = refl
+    go false = I .bytes
+
 module _ (w b : List ℕ) (R : Ready w b) (q : Ask) where
   -- the answer, and the bytes
   pub code-is : answerS (netIn w) (stateAt b) q ≡ askCode b q
@@ -45,16 +54,8 @@ module _ (w b : List ℕ) (R : Ready w b) (q : Ask) where
   unfolding stateAt
   sound = sound-ask (netAt b) loaded (stateAt b) (R .intact .sound) q
 
-  bytes-are : askBytes b q ≡ encode (tableIn b) next
-  unfolding askBytes askCode stateAt
-  bytes-are = go (eqb (answerS (netAt b) (stateAt b) q) 0)
-    where
-      go : (x : Bool) → pick x (encode (tableIn b) (acceptS (netAt b) (stateIn (netAt b) b) q)) b ≡ encode (tableIn b) (pick x (acceptS (netAt b) (stateIn (netAt b) b) q) (stateIn (netAt b) b))
-      go true = refl
-      go false = R .intact .bytes
-
   table-is : tableIn (askBytes b q) ≡ tableIn b
-  table-is = ap tableIn bytes-are ∙ table-encode (netAt b) loaded (tableIn b) next sound (R .intact .table-size)
+  table-is = ap tableIn (ask-encode b (R .intact) q) ∙ table-encode (netAt b) loaded (tableIn b) next sound (R .intact .table-size)
 
   net-is : netAt (askBytes b q) ≡ netAt b
   unfolding netAt
@@ -65,7 +66,7 @@ module _ (w b : List ℕ) (R : Ready w b) (q : Ask) where
     held = R .held;
     net = R .net ∙ sym net-is;
     intact = subst (λ (N : Net). Intact N (askBytes b q)) (sym net-is)
-        (subst (Intact (netAt b)) (sym bytes-are) (intact-encode (netAt b) loaded (tableIn b) next sound (R .intact .table-size)));
+        (subst (Intact (netAt b)) (sym (ask-encode b (R .intact) q)) (intact-encode (netAt b) loaded (tableIn b) next sound (R .intact .table-size)));
     whole = ap (λ (l : List ℕ). length l % 4) table-is ∙ R .whole;
   }
 
@@ -73,7 +74,7 @@ module _ (w b : List ℕ) (R : Ready w b) (q : Ask) where
   unfolding stateAt
   state-asked =
       ap (λ (N : Net). stateIn N (askBytes b q)) net-is
-      ∙ ap (stateIn (netAt b)) bytes-are
+      ∙ ap (stateIn (netAt b)) (ask-encode b (R .intact) q)
       ∙ state-encode (netAt b) loaded (tableIn b) next sound (R .intact .table-size)
       ∙ ap (λ (N : Net). askS N (stateAt b) q) (sym (R .net))
 

@@ -14,7 +14,7 @@ use Rattle.words.proofs.Words.{words-get, length-words, length-bytes, words-of-
 use Rattle.net.specs.Net.{Net, Loaded}
 use Rattle.replay.specs.State.{State}
 use Rattle.replay.specs.Sound.{Sound}
-use Rattle.replay.specs.Record.{counts, countsSize, kindsAt, placesAt, countsAt, pairsAt, recordSize, contents, encode, wordsFrom, tableIn, stateFrom, stateIn, Intact}
+use Rattle.replay.specs.Record.{counts, countsSize, kindsAt, placesAt, countsAt, pairsAt, recordSize, contents, encode, recordWords, wordsFrom, tableIn, stateFrom, stateIn, Intact}
 use Rattle.replay.proofs.Interleave.{length-interleave, All-interleave, evens-interleave, odds-interleave}
 
 -- a number of 32 bits
@@ -225,10 +225,6 @@ module _ (N : Net) (L : Loaded N) (table : List ℕ) (d : State) (S : Sound N d)
 -- an intact checkpoint has its parts where its contents say
 pub intact-laid : (N : Net) → Loaded N → (b : List ℕ) → Intact N b → Laid b (tableIn b) (stateIn N b)
 intact-laid N L b I = subst (λ (c : List ℕ). Laid c (tableIn b) (stateIn N b)) (sym (I .bytes)) (laid N L (tableIn b) (stateIn N b) (I .sound) (I .table-size))
-
--- a checkpoint as numbers, for a table of whole numbers
-abbrev pub recordWords : List ℕ → State → List ℕ
-recordWords table d = contents table d ++ (wordsOf table ++ (d .kinds ++ (d .places ++ (counts d ++ d .pairs))))
 
 words-append : (n : ℕ) (s r : List ℕ) → length s ≡ 4 * n → wordsOf (s ++ r) ≡ wordsOf s ++ wordsOf r
 unfolding wordsOf

@@ -1,5 +1,5 @@
 -- Every event and close keeps any sound state sound, whether or not a trail could have written it. Assumes nothing.
-use Prim.Native.Nat.{ℕ, zero, suc, _+_, _*_, _≤_, _<_}
+use Prim.Native.Nat.{ℕ, _+_, _*_, _≤_, _<_}
 use mathlib.Core.Bool.{Bool, true, false}
 use mathlib.Core.Logic.{_⊎_, inl, inr}
 use mathlib.Core.Path.{_≡_, refl, ap, sym, _∙_, subst}
@@ -8,19 +8,19 @@ use native.Mathlib.Omega.{arith}
 use native.Mathlib.Decide.{ℕ-discrete}
 use lib.Arith.{digits-lt}
 use lib.ListN.{length, getD, set, replicate, length-set, length-replicate, length-map}
-use lib.Seq.{getD-set-same, getD-set-other}
 use lib.Dec.{eqb}
 use borrow.Author.Tests.{eqb-true, eqb-false, not-true, ne-eqb}
-use Rattle.words.specs.Lists.{pick, All, keep, one, total, sumTo, upto}
+use Rattle.words.specs.Lists.{pick, All, keep, one, total, sumTo}
 use Rattle.words.proofs.Lists.{All-to, All-map, All-keep, zeros-at}
 use Rattle.words.proofs.Sums.{total-map, total-same, total-zero, total-swap, total-length, total-const, sumTo-same, sumTo-add, sumTo-at, keep-le}
 use Rattle.net.specs.Net.{Net, Arc, Loaded}
-use Rattle.replay.specs.Plain.{Event, Ask, event, close, Plain, Hop, jumped, hops, walked, leg, legs, ending, endings, refusal, start, run}
+use Rattle.replay.specs.Plain.{Event, Ask, event, close, Plain, Hop, jumped, hops, walked, leg, legs, endings, refusal, start, run}
 use Rattle.replay.specs.Counts.{leaps, allJumps}
 use Rattle.replay.specs.State.{State, bump, tally, hopIndex, afterEvent, afterClose, startState, answerS, acceptS, askS, runS, stateOf, inputs, sunkOn, storedConsumed, storedJumpsIn, storedJumps}
 use Rattle.replay.specs.Sound.{OnKind, Sound}
 use Rattle.replay.proofs.Tally.{bump-at, tally-at, tally-sum, tally-plain, length-tally, zeros-sum}
 use Rattle.replay.proofs.Accepted.{Fitting, Accepted, accepted, closable, Registered, GoodHop, fitting-good, hops-good, event-sum, begins-on, endings-good, endings-sum}
+use Rattle.replay.proofs.Entry.{all-sunk}
 use Rattle.replay.proofs.Simulate.{run-sim}
 use Rattle.replay.proofs.Agree.{Reached, Leapt, leaps-good, index-eq}
 
@@ -65,24 +65,6 @@ module _ (N : Net) (l : List ℕ) (size : length l ≡ N .places * N .places) (h
 act-same : (N : Net) (ks : List ℕ) (a : ℕ) (os ps : List ℕ) → All (λ (h : Hop). h .act ≡ a) (hops ps (map (leg N ks a) os))
 act-same N ks a [] ps = tt
 act-same N ks a (o ∷ os) ps = (refl, act-same N ks a os (set ps o (leg N ks a o .out)))
-
--- the closing walk leaves each object on its sink
-module _ (N : Net) (ks : List ℕ) where
-  below : (n i : ℕ) (ps : List ℕ) (o : ℕ) → o < i → getD (walked ps (map (ending N ks) (upto n i))) o 0 ≡ getD ps o 0
-  below zero i ps o h = refl
-  below (suc n) i ps o h = below n (suc i) (set ps i (N .sink (getD ks i 0))) o (omega arith) ∙ getD-set-other ps i o _ 0 (λ q. omega arith)
-
-  inside : (n i : ℕ) (ps : List ℕ) → i + n ≤ length ps → (o : ℕ) → i ≤ o → o < i + n → getD (walked ps (map (ending N ks) (upto n i))) o 0 ≡ N .sink (getD ks o 0)
-  inside zero i ps f o h l = absurd (omega arith)
-  inside (suc n) i ps f o h l = go (ℕ-discrete o i) (inside n (suc i) (set ps i (N .sink (getD ks i 0))) (rw length-set (omega arith)) o)
-    where
-      go : Dec (o ≡ i) → (suc i ≤ o → o < suc i + n → getD (walked (set ps i (N .sink (getD ks i 0))) (map (ending N ks) (upto n (suc i)))) o 0 ≡ N .sink (getD ks o 0))
-          → getD (walked (set ps i (N .sink (getD ks i 0))) (map (ending N ks) (upto n (suc i)))) o 0 ≡ N .sink (getD ks o 0)
-      go (yes q) r = rw q (below n (suc i) (set ps i (N .sink (getD ks i 0))) i (omega arith) ∙ getD-set-same ps i _ 0 (omega arith))
-      go (no m) r = r (omega arith) (omega arith)
-
-  pub all-sunk : (ps : List ℕ) → length ks ≤ length ps → (o : ℕ) → o < length ks → getD (walked ps (endings N ks)) o 0 ≡ N .sink (getD ks o 0)
-  all-sunk ps f o h = inside (length ks) 0 ps (omega arith) o (omega arith) (omega arith)
 
 module _ (N : Net) (L : Loaded N) (d : State) (S : Sound N d) where
   pub sound-event : (e : Event) → refusal N (d .kinds) (d .closed) (d .events) e ≡ 0 → Sound N (afterEvent N d e)

@@ -14,12 +14,12 @@ use Rattle.net.proofs.HeldLaws.{held-loaded}
 use Rattle.replay.specs.declared.layout.Layout.{Layout}
 use Rattle.replay.specs.State.{State}
 use Rattle.replay.specs.Sound.{Sound}
-use Rattle.replay.specs.Record.{interleave, counts, encode, tableIn, stateIn}
+use Rattle.replay.specs.Record.{interleave, counts, encode, recordWords, tableIn, stateIn}
 use Rattle.replay.specs.Calls.{netAt, stateAt}
 use Rattle.replay.specs.Offsets.{layoutOf}
 use Rattle.replay.specs.Ready.{Ready}
 use Rattle.replay.proofs.Interleave.{length-interleave, interleave-even, interleave-odd, interleave-set-even, interleave-set-odd}
-use Rattle.replay.proofs.Encode.{Laid, intact-laid, counts-size, recordWords, words-encode, bytes-encode}
+use Rattle.replay.proofs.Encode.{Laid, intact-laid, counts-size, words-encode, bytes-encode}
 
 -- the state d with one part changed
 abbrev pub withPlaces : State → List ℕ → State

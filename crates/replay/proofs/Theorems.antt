@@ -1,4 +1,5 @@
--- The results by name: of every run on a loaded net from a register that 11 and 12 do not refuse. Assumes nothing.
+-- The results by name: of every sound state, and of every run on a loaded net from a register that 11 and 12 do not refuse.
+-- Assumes nothing.
 use Prim.Native.Nat.{ℕ, _+_, _*_, _≤_}
 use mathlib.Core.Bool.{Bool, true, false}
 use mathlib.Core.Logic.{_↔_}
@@ -13,10 +14,11 @@ use Rattle.net.specs.Net.{Net, Loaded}
 use Rattle.replay.specs.Plain.{Event, Ask, event, close, Plain, Hop, jumped, begins, registerCode, start, answer, accept, ask, run, answers, history, positions}
 use Rattle.replay.specs.Counts.{leaps, transfers, allJumps, consumed, jumpsIn}
 use Rattle.replay.specs.Permitted.{Permitted}
-use Rattle.replay.specs.State.{State, startState, runS, answersS, stateOf}
+use Rattle.replay.specs.State.{State, startState, answerS, runS, answersS, stateOf}
 use Rattle.replay.specs.Sound.{OnKind, Sound}
-use Rattle.replay.specs.Claims.{Agrees}
-use Rattle.replay.proofs.Accepted.{registered}
+use Rattle.replay.specs.Claims.{Agrees, EventAtOnce, CloseAtOnce}
+use Rattle.replay.proofs.Accepted.{accepted, registered}
+use Rattle.replay.proofs.Entry.{event-at-once, close-at-once}
 use Rattle.replay.proofs.Simulate.{run-sim, answers-sim}
 use Rattle.replay.proofs.Agree.{Reached, reached-run, reached-start, pair-is, in-is, out-is, fired-is, jumps-is, consumed-is, transfers-is, transfers-by-objects, consumed-total, positions-on}
 use Rattle.replay.proofs.Keep.{sound-run, all-jumps-is}
@@ -46,6 +48,14 @@ jumps-le-transfers N p = omega (arith, sym (total-length (leaps N p)), keep-le j
 
 pub jumps-in-le-consumed : (N : Net) (p : Plain) (q : ℕ) → jumpsIn N p q ≤ consumed N p q
 jumps-in-le-consumed N p q = keep-le jumped (λ (h : Hop). one (eqb q (h .to))) (history N p)
+
+-- of every state that none of 44 to 47 refuses, also one that no trail wrote: an accepted event, and a close, judge each object
+-- by the places at their entry
+pub event-judged-at-entry : (N : Net) (d : State) → Sound N d → (e : Event) → answerS N d (event e) ≡ 0 → EventAtOnce N (d .kinds) (d .places) e
+event-judged-at-entry N d S e z = event-at-once N (d .kinds) (d .places) (S .on .size) e (accepted N (d .kinds) (d .closed) (d .events) e z .fits)
+
+pub close-judged-at-entry : (N : Net) (d : State) → Sound N d → CloseAtOnce N (d .kinds) (d .places)
+close-judged-at-entry N d S = close-at-once N (d .kinds) (d .places) (S .on .size)
 
 module _ (N : Net) (L : Loaded N) (ks : List ℕ) (ok : registerCode N ks ≡ 0) (qs : List Ask) where
   reached : Reached N (run N (start ks) qs)

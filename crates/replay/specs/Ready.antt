@@ -8,7 +8,8 @@ use Rattle.net.specs.Held.{netIn, Held}
 use Rattle.replay.specs.Record.{tableIn, Intact}
 use Rattle.replay.specs.Calls.{netAt}
 
--- the words w hold the net of the record b, to which none of 41 to 47 applies
+-- The words w hold the net of the record b, and b is the record of a sound state: none of 41, 42 and 44 to 47 applies to it.
+-- That its table loads (not 43) is not said, and not needed: w hold a net that loading promises, and it is the table's.
 pub record Ready (w b : List ℕ) : Type 0 where
   pub held : Held w
   pub net : netIn w ≡ netAt b

@@ -57,6 +57,10 @@ module _ (table : List ℕ) (d : State) where
   unfoldable pub encode : List ℕ
   encode = bytesOf contents ++ (table ++ (bytesOf (d .kinds) ++ (bytesOf (d .places) ++ (bytesOf (counts d) ++ bytesOf (d .pairs)))))
 
+  -- the record as numbers, of a table of whole numbers
+  abbrev pub recordWords : List ℕ
+  recordWords = contents ++ (wordsOf table ++ (d .kinds ++ (d .places ++ (counts d ++ d .pairs))))
+
 -- the n numbers from byte i on
 unfoldable pub wordsFrom : List ℕ → ℕ → ℕ → List ℕ
 wordsFrom b i n = take n (wordsOf (drop i b))

@@ -1,4 +1,4 @@
--- Document 01's trails T3, T4 and T6 to T10 on table M, as rows with one claim for all.
+-- Document 01's trails T3, T4 and T6 to T10 on table M, and two with two jumps in one event, as rows with one claim for all.
 use Prim.Native.Nat.{ℕ, _*_, _/_, _%_}
 use mathlib.Core.Bool.{not}
 use mathlib.Core.Path.{_≡_}
@@ -7,7 +7,8 @@ use lib.ListN.{length, getD}
 use lib.Dec.{eqb}
 use Rattle.words.specs.Lists.{All, keep, upto}
 use Rattle.net.specs.Net.{Net}
-use Rattle.replay.specs.Plain.{Ask, event, close, Plain, start, run, answers, positions}
+use Rattle.replay.specs.Plain.{Event, Ask, event, close, Plain, start, run, answers, positions}
+use Rattle.replay.specs.Permitted.{Permitted}
 use Rattle.replay.specs.Counts.{transfers, allJumps, consumed, jumpsIn, jumpsOut, pairJumps, fired, moved, jumps}
 
 -- table M as a net: kind 0 script on places 0 to 2, kind 1 sheet on places 3 to 5
@@ -74,6 +75,21 @@ awarded os = record {
   };
 }
 
+-- two objects jump in one event: the award right after the start, with its objects in either order
+abbrev pub bothJump : List ℕ → Row
+bothJump os = record {
+  kinds = three;
+  asks = ev 2 os ∷ close ∷ [];
+  shows = record {
+    answered = 0 ∷ 0 ∷ [];
+    stands = 2 ∷ 5 ∷ 5 ∷ [];
+    trail = 1 ∷ 4 ∷ 5 ∷ [];
+    ofPlaces = (0 ∷ 0 ∷ 1 ∷ []) ∷ (1 ∷ 1 ∷ 1 ∷ []) ∷ (1 ∷ 1 ∷ 0 ∷ []) ∷ (0 ∷ 0 ∷ 2 ∷ []) ∷ (1 ∷ 1 ∷ 0 ∷ []) ∷ (2 ∷ 1 ∷ 0 ∷ []) ∷ [];
+    ofActs = (0 ∷ 0 ∷ 0 ∷ []) ∷ (0 ∷ 0 ∷ 0 ∷ []) ∷ (1 ∷ 2 ∷ 2 ∷ []) ∷ (0 ∷ 0 ∷ 0 ∷ []) ∷ [];
+    ofPairs = (0 ∷ 1 ∷ 1 ∷ []) ∷ (1 ∷ 2 ∷ 1 ∷ []) ∷ (3 ∷ 4 ∷ 1 ∷ []) ∷ (3 ∷ 5 ∷ 1 ∷ []) ∷ [];
+  };
+}
+
 abbrev pub rows : List Row
 rows =
     -- T3
@@ -131,8 +147,27 @@ rows =
         ofPairs = (1 ∷ 2 ∷ 1 ∷ []) ∷ (3 ∷ 5 ∷ 1 ∷ []) ∷ [];
       };
     }
+    -- a miscount that was met: one jump per event where two objects jumped
+    ∷ bothJump (0 ∷ 1 ∷ [])
+    ∷ bothJump (1 ∷ 0 ∷ [])
     ∷ []
 
 -- the claim: on the net N, each row shows what it is to show
 abbrev pub RowsHold : Net → Type 0
 RowsHold N = All (λ (r : Row). shown N (r .kinds) (r .asks) ≡ r .shows) rows
+
+-- the rows of T3 and T4, and a row's events
+abbrev pub third : Row
+third = getD rows 0 (awarded [])
+
+abbrev pub fourth : Row
+fourth = getD rows 1 (awarded [])
+
+abbrev pub eventsOf : List Ask → List Event
+eventsOf [] = []
+eventsOf (event e ∷ qs) = e ∷ eventsOf qs
+eventsOf (close ∷ qs) = eventsOf qs
+
+-- the claim: from the sources, a script's and two sheets', T3's events are a permitted run and T4's are not
+abbrev pub PermittedRows : Net → Type 0
+PermittedRows N = Permitted N three (0 ∷ 3 ∷ 3 ∷ []) (eventsOf (third .asks)) × (Permitted N three (0 ∷ 3 ∷ 3 ∷ []) (eventsOf (fourth .asks)) → ⊥)

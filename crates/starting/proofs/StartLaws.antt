@@ -12,7 +12,7 @@ use Rattle.words.specs.Lists.{pick, All, over}
 use Rattle.words.specs.Words.{wordsOf, bytesOf}
 use Rattle.words.proofs.Words.{length-words, bytes-of-words}
 use Rattle.words.proofs.Refusals.{first-then, first-stays}
-use Rattle.net.specs.Net.{Net}
+use Rattle.net.specs.Net.{Net, Loaded}
 use Rattle.net.specs.Table.{netOf}
 use Rattle.net.specs.Held.{netIn}
 use Rattle.net.proofs.Promise.{promise, table-size}
@@ -20,12 +20,12 @@ use Rattle.net.proofs.Sets.{sets-all}
 use Rattle.replay.specs.Plain.{registerTests, registerCode}
 use Rattle.replay.specs.State.{State, startState}
 use Rattle.replay.specs.Sound.{Sound}
-use Rattle.replay.specs.Record.{interleave, counts, countsSize, contents}
+use Rattle.replay.specs.Record.{interleave, counts, countsSize, contents, recordWords}
 use Rattle.replay.specs.Calls.{startRecord, startCode, startBytes}
 use Rattle.starting.specs.Startable.{Startable, contentsOf}
 use Rattle.replay.proofs.Accepted.{registered}
 use Rattle.replay.proofs.Keep.{sound-start}
-use Rattle.replay.proofs.Encode.{laid, recordWords, bytes-encode, counts-size}
+use Rattle.replay.proofs.Encode.{laid, bytes-encode, counts-size}
 
 -- one run of stores behind another
 run-on : (xs ys w : List ℕ) (i : ℕ) → sets (sets w i xs) (i + length xs) ys ≡ sets w i (xs ++ ys)
@@ -56,13 +56,17 @@ rest-zeros a m n e = ap (λ (l : List ℕ). 0 ∷ 0 ∷ 0 ∷ l) (zeros-from a m
 four-times : (l n : ℕ) → l % 4 ≡ 0 → n ≡ l / 4 → 4 * n ≡ l
 four-times l n h e = omega arith
 
+-- the state of a trail that is just started, by the table's and the register's bytes
+abbrev pub begun : List ℕ → List ℕ → State
+begun table objects = startState (netOf table) (wordsOf objects)
+
 -- words that hold the net of a table that loads, and a register in whole rows that is not refused
 module _ (t table objects : List ℕ) (S : Startable t table objects) (ok : registerCode (netOf table) (wordsOf objects) ≡ 0) where
-  abbrev pub begun : State
-  begun = startState (netOf table) (wordsOf objects)
+  pub loaded : Loaded (netOf table)
+  loaded = promise table (S .tabled .taken)
 
-  sound : Sound (netOf table) begun
-  sound = sound-start (netOf table) (promise table (S .tabled .taken)) (wordsOf objects) (registered (netOf table) (wordsOf objects) ok)
+  pub sound : Sound (netOf table) (begun table objects)
+  sound = sound-start (netOf table) loaded (wordsOf objects) (registered (netOf table) (wordsOf objects) ok)
 
   rows : 4 * length (wordsOf objects) ≡ length objects
   rows = four-times (length objects) (length (wordsOf objects)) (S .whole) (length-words objects)
@@ -80,10 +84,10 @@ module _ (t table objects : List ℕ) (S : Startable t table objects) (ok : regi
   unfolding startRecord
   record-size-of = omega (
     arith,
-    laid (netOf table) (promise table (S .tabled .taken)) table begun sound table-few .size,
+    laid (netOf table) loaded table (begun table objects) sound table-few .size,
     rows,
     length-map (wordsOf objects) (netOf table .source),
-    counts-size (netOf table) begun sound,
+    counts-size (netOf table) (begun table objects) sound,
     length-replicate {A = ℕ} (netOf table .places * netOf table .places) 0,
   )
 
@@ -99,22 +103,22 @@ module _ (t table objects : List ℕ) (S : Startable t table objects) (ok : regi
   -- the numbers that starting stores, as one list
   module _ (w : List ℕ) (c p : ℕ) (cs : c ≡ 4 * countsSize (netIn t)) (ps : p ≡ 4 * (netIn t .places * netIn t .places))
       (size : length w ≡ 10 + length table / 4 + length objects / 4 + length objects / 4 + countsSize (netIn t) + netIn t .places * netIn t .places) where
-    heads : contentsOf (length table) (length objects) c p ≡ contents table begun
+    heads : contentsOf (length table) (length objects) c p ≡ contents table (begun table objects)
     heads = cc (
       rows,
       cs ∙ ap (λ (N : Net). 4 * countsSize N) (S .tabled .net),
       ps ∙ ap (λ (N : Net). 4 * (N .places * N .places)) (S .tabled .net),
-      counts-size (netOf table) begun sound,
+      counts-size (netOf table) (begun table objects) sound,
       length-map (wordsOf objects) (netOf table .source),
       length-replicate {A = ℕ} (netOf table .places * netOf table .places) 0,
     )
 
-    tails : replicate (c / 4 + p / 4) 0 ≡ counts begun ++ begun .pairs
+    tails : replicate (c / 4 + p / 4) 0 ≡ counts (begun table objects) ++ begun table objects .pairs
     tails = sym (rest-zeros (netOf table .acts) (netOf table .places * netOf table .places) (c / 4 + p / 4)
         (omega (arith, cs ∙ ap (λ (N : Net). 4 * countsSize N) (S .tabled .net), ps ∙ ap (λ (N : Net). 4 * (N .places * N .places)) (S .tabled .net))))
 
     pub stored : sets (sets (sets (sets (sets w 0 (contentsOf (length table) (length objects) c p)) 10 (wordsOf table)) (10 + length table / 4) (wordsOf objects)) (10 + length table / 4 + length objects / 4) (map (netIn t .source) (wordsOf objects)))
-        (10 + length table / 4 + length objects / 4 + length objects / 4) (replicate (c / 4 + p / 4) 0) ≡ recordWords table begun
+        (10 + length table / 4 + length objects / 4 + length objects / 4) (replicate (c / 4 + p / 4) 0) ≡ recordWords table (begun table objects)
     stored =
         five w (contentsOf (length table) (length objects) c p) (wordsOf table) (wordsOf objects) (map (netIn t .source) (wordsOf objects)) (replicate (c / 4 + p / 4) 0)
         10 (10 + length table / 4) (10 + length table / 4 + length objects / 4) (10 + length table / 4 + length objects / 4 + length objects / 4)
@@ -124,14 +128,14 @@ module _ (t table objects : List ℕ) (S : Startable t table objects) (ok : regi
 
   -- bytes that hold them are the record
   pub record-is : (out : List ℕ) → length out ≡ length (startRecord table (wordsOf objects)) → ((i : ℕ) → getD table i 0 < 256) → ((i : ℕ) → getD out i 0 < 256)
-      → wordsOf out ≡ recordWords table begun → out ≡ startRecord table (wordsOf objects)
+      → wordsOf out ≡ recordWords table (begun table objects) → out ≡ startRecord table (wordsOf objects)
   unfolding startRecord
   record-is out size small bytes words =
       let h : length table % 4 ≡ 0 = table-size table (S .tabled .taken) .2 in
       let g = S .whole in
       sym (bytes-of-words out (omega (arith, length-words out, record-size)) bytes)
       ∙ ap bytesOf words
-      ∙ bytes-encode table begun (length table / 4) (omega arith) small
+      ∙ bytes-encode table (begun table objects) (length table / 4) (omega arith) small
 
 -- the answers, by the tests passed on the way
 module _ (table objects lent : List ℕ) where
