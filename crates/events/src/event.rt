@@ -56,39 +56,33 @@ fn object_answer(code: u32) -> EventAnswer
     }
 }
 
-// 25 to 27: the tests of an event's objects. Where none applies, their kinds are put into `kinds`.
+// 25 to 27: the tests of an event's objects.
 fn test_objects(
     rec: &[u8],
     t: &[u32; 1684],
     lay: Layout,
     act: usize,
     objs: &[u8],
-    kinds: &mut [u32; 8],
 ) -> EventAnswer
     requires { ⌜ Counted (now t) (now rec) lay act (wordsOf (now objs)) ⌝ }
-    requires { ⌜ length (now kinds) ≡ 8 ⌝ }
     ensures code { λ r. ⌜ eventCode r ≡ first (objectTests (netIn (now (t .entry))) (stateAt (now (rec .entry)) .kinds) act (wordsOf (now (objs .entry)))) ⌝ }
-    ensures kinds { λ r. ⌜ (eventCode r ≡ 0 → Kinds (now (rec .entry)) (wordsOf (now (objs .entry))) (now (kinds .exit))) ⌝ }
 {
     let from = 4 * lay.register;
     let to = 4 * lay.positions;
-    object_answer(refuse_objects(objs, act, &rec[from..to], t, kinds))
+    object_answer(refuse_objects(objs, act, &rec[from..to], t))
 }
 
-// 21 to 27: the first that applies. Where none does, the objects' kinds are put into `kinds`.
+// 21 to 27: the first that applies.
 fn refuse(
     rec: &[u8],
     t: &[u32; 1684],
     lay: Layout,
     act: usize,
     objs: &[u8],
-    kinds: &mut [u32; 8],
 ) -> EventAnswer
     requires { ⌜ Ready (now t) (now rec) ⌝ }
     requires { ⌜ lay ≡ layoutOf (netIn (now t)) (now rec) ⌝ }
-    requires { ⌜ length (now kinds) ≡ 8 ⌝ }
     ensures code { λ r. ⌜ eventCode r ≡ answerS (netIn (now (t .entry))) (stateAt (now (rec .entry))) (askEvent act (wordsOf (now (objs .entry)))) ⌝ }
-    ensures kinds { λ r. ⌜ (eventCode r ≡ 0 → Kinds (now (rec .entry)) (wordsOf (now (objs .entry))) (now (kinds .exit))) ⌝ }
 {
     if words::get_word(rec, lay.counts) != 0 {
         return EventAnswer::Closed;
@@ -102,21 +96,7 @@ fn refuse(
     if objs.len() / 4 != look::arcs(t, act) {
         return EventAnswer::Number;
     }
-    test_objects(rec, t, lay, act, objs, kinds)
-}
-
-// The kinds of known objects, by the register's bytes.
-fn read_kinds(register: &[u8], objs: &[u8], kinds: &mut [u32; 8])
-    requires { ⌜ All (λ (o : ℕ). o < length (wordsOf (now register))) (wordsOf (now objs)) ⌝ }
-    requires { ⌜ (length (wordsOf (now objs)) ≤ 8) × (length (now kinds) ≡ 8) ⌝ }
-    ensures { λ _. ⌜ take (length (wordsOf (now (objs .entry)))) (now (kinds .exit)) ≡ kindsOf (wordsOf (now (register .entry))) (wordsOf (now (objs .entry))) ⌝ }
-{
-    let n = objs.len() / 4;
-    let mut i = 0;
-    while i < n {
-        kinds[i] = words::get_word(register, words::wide(words::get_word(objs, i)));
-        i += 1;
-    }
+    test_objects(rec, t, lay, act, objs)
 }
 
 // Every object of the event jumps where it has to, and is moved; the activity's jumps are added once, behind the last object.
@@ -126,18 +106,17 @@ fn step_objects(
     lay: Layout,
     act: usize,
     objs: &[u8],
-    kinds: &[u32; 8],
 )
     requires { ⌜ Moving (now t) (now rec) lay act (wordsOf (now objs)) ⌝ }
-    requires { ⌜ Kinds (now rec) (wordsOf (now objs)) (now kinds) ⌝ }
     ensures { λ _. ⌜ wordsOf (now (rec .exit)) ≡ numbersOf (tableIn (now (rec .entry))) (movedState (netIn (now (t .entry))) (stateAt (now (rec .entry))) act (wordsOf (now (objs .entry)))) ⌝ }
 {
     let n = objs.len() / 4;
+    let register = 4 * lay.register;
     let mut done = 0;
     let mut jumps = 0u32;
     while done < n {
         let o = words::wide(words::get_word(objs, done));
-        let k = words::wide(kinds[done]);
+        let k = words::wide(words::get_word(&rec[register..], o));
         let inp = look::input(t, act, k);
         let out = look::output(t, act, k) as u32;
         jumps += move_object(rec, lay, o, inp, out);
@@ -153,13 +132,11 @@ fn take_event(
     lay: Layout,
     act: usize,
     objs: &[u8],
-    kinds: &[u32; 8],
 )
     requires { ⌜ Moving (now t) (now rec) lay act (wordsOf (now objs)) ⌝ }
-    requires { ⌜ Kinds (now rec) (wordsOf (now objs)) (now kinds) ⌝ }
     ensures { λ _. ⌜ wordsOf (now (rec .exit)) ≡ numbersOf (tableIn (now (rec .entry))) (afterEvent (netIn (now (t .entry))) (stateAt (now (rec .entry))) (record { act = act; objs = wordsOf (now (objs .entry)) })) ⌝ }
 {
-    step_objects(rec, t, lay, act, objs, kinds);
+    step_objects(rec, t, lay, act, objs);
     add_one(rec, lay.counts + 1);
     add_one(rec, lay.counts + (3 + 2 * act));
 }
@@ -171,11 +148,7 @@ pub fn apply(rec: &mut [u8], t: &[u32; 1684], act: u32, objs: &[u8])
     ensures { λ _. ⌜ now (rec .exit) ≡ askBytes (now (rec .entry)) (askEvent act (wordsOf (now (objs .entry)))) ⌝ }
 {
     let lay = read_layout(rec, t);
-    let from = 4 * lay.register;
-    let to = 4 * lay.positions;
-    let mut kinds = [0u32; 8];
-    read_kinds(&rec[from..to], objs, &mut kinds);
-    take_event(rec, t, lay, act as usize, objs, &kinds);
+    take_event(rec, t, lay, act as usize, objs);
 }
 
 // Puts an event to a trail: it is refused and nothing changes, or it is carried out in the record's bytes.
@@ -184,11 +157,10 @@ pub fn event(rec: &mut [u8], t: &[u32; 1684], act: u32, objs: &[u8]) -> EventAns
     ensures { λ r. ⌜ (eventCode r ≡ askCode (now (rec .entry)) (askEvent act (wordsOf (now (objs .entry))))) × (now (rec .exit) ≡ askBytes (now (rec .entry)) (askEvent act (wordsOf (now (objs .entry))))) ⌝ }
 {
     let lay = read_layout(rec, t);
-    let mut kinds = [0u32; 8];
-    let answer = refuse(rec, t, lay, act as usize, objs, &mut kinds);
+    let answer = refuse(rec, t, lay, act as usize, objs);
     match answer {
         EventAnswer::Taken => {
-            take_event(rec, t, lay, act as usize, objs, &kinds);
+            take_event(rec, t, lay, act as usize, objs);
             EventAnswer::Taken
         }
         _ => answer,

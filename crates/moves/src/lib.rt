@@ -43,10 +43,11 @@ pub fn move_object(rec: &mut [u8], lay: Layout, o: usize, inp: usize, out: u32) 
     requires { ⌜ CanMove lay o inp (wordsOf (now rec)) ⌝ }
     ensures { λ r. ⌜ (wordsOf (now (rec .exit)) ≡ goWords lay o inp out (wordsOf (now (rec .entry)))) × (r ≡ jumpsTo lay o inp (wordsOf (now (rec .entry)))) × (r ≤ 1) ⌝ }
 {
-    let p = lay.positions + o;
-    let at = words::get_word(rec, p) as usize;
+    let from = 4 * lay.positions;
+    let at = words::get_word(&rec[from..], o) as usize;
     let d = jumps(at, inp);
-    add(rec, lay.jumps + (at * lay.places + inp), d);
-    words::put_word(rec, p, out);
+    let pairs = 4 * lay.jumps;
+    add(&mut rec[pairs..], at * lay.places + inp, d);
+    words::put_word(&mut rec[from..], o, out);
     d
 }
