@@ -9,7 +9,7 @@ ghost use mathlib.Core.Path.{_≡_};
 ghost use Prim.Native.Nat.{_≤_, _<_};
 ghost use lib.ListN.{length, take};
 ghost use lib.Seq.{sets};
-ghost use Rattle.words.specs.Lists.{pick};
+ghost use Rattle.words.specs.Lists.{one};
 ghost use Rattle.words.specs.Refusals.{first};
 ghost use Rattle.words.specs.Words.{wordsOf};
 ghost use Rattle.net.specs.Held.{netIn, Held};
@@ -19,6 +19,9 @@ ghost use Rattle.replay.specs.Ready.{KnownKinds};
 
 // 1 where the activity does not take kind k, else 0.
 fn foreign(t: &[u32; 1684], act: usize, k: usize) -> u32
+    requires { ⌜ Held (now t) ⌝ }
+    requires { ⌜ (act < netIn (now t) .acts) × (k < netIn (now t) .kinds) ⌝ }
+    ensures { λ r. ⌜ (r ≡ one (not (takes (netIn (now (t .entry))) act k))) × (r ≤ 1) ⌝ }
 {
     if takes_kind(t, act, k) {
         return 0;
