@@ -10,18 +10,17 @@ use replay::objects::refuse_objects;
 ghost use mathlib.Core.Path.{_≡_};
 ghost use Prim.Native.Nat.{ℕ, _≤_, _<_};
 ghost use lib.ListN.{length, take};
-ghost use Rattle.words.specs.Lists.{All};
 ghost use Rattle.words.specs.Refusals.{first};
 ghost use Rattle.words.specs.Words.{wordsOf};
 ghost use Rattle.net.specs.Held.{netIn};
-ghost use Rattle.replay.specs.Plain.{kindsOf, objectTests};
+ghost use Rattle.replay.specs.Plain.{objectTests};
 ghost use Rattle.replay.specs.State.{answerS, afterEvent};
 ghost use Rattle.replay.specs.Record.{tableIn};
 ghost use Rattle.replay.specs.Calls.{stateAt, askCode, askBytes};
 ghost use Rattle.replay.specs.Offsets.{layoutOf};
 ghost use Rattle.replay.specs.Ready.{Ready};
 ghost use Rattle.moves.specs.Moves.{numbersOf};
-ghost use Rattle.events.specs.Answers.{eventCode, askEvent, ObjectCode, Counted, Moving, Kinds};
+ghost use Rattle.events.specs.Answers.{eventCode, askEvent, ObjectCode, Counted, Moving};
 ghost use Rattle.events.specs.Moved.{movedState};
 
 // The answer to an event. `eventCode` gives document 01's number.
@@ -111,12 +110,11 @@ fn step_objects(
     ensures { λ _. ⌜ wordsOf (now (rec .exit)) ≡ numbersOf (tableIn (now (rec .entry))) (movedState (netIn (now (t .entry))) (stateAt (now (rec .entry))) act (wordsOf (now (objs .entry)))) ⌝ }
 {
     let n = objs.len() / 4;
-    let register = 4 * lay.register;
     let mut done = 0;
     let mut jumps = 0u32;
     while done < n {
         let o = words::wide(words::get_word(objs, done));
-        let k = words::wide(words::get_word(&rec[register..], o));
+        let k = words::wide(words::get_behind(rec, lay.register, o));
         let inp = look::input(t, act, k);
         let out = look::output(t, act, k) as u32;
         jumps += move_object(rec, lay, o, inp, out);
