@@ -8,8 +8,6 @@ use replay::layout::Layout;
 use replay::layout::read_layout;
 use replay::objects::refuse_objects;
 ghost use mathlib.Core.Path.{_≡_};
-ghost use Prim.Native.Nat.{ℕ, _≤_, _<_};
-ghost use lib.ListN.{length, take};
 ghost use Rattle.words.specs.Refusals.{first};
 ghost use Rattle.words.specs.Words.{wordsOf};
 ghost use Rattle.net.specs.Held.{netIn};
@@ -56,13 +54,7 @@ fn object_answer(code: u32) -> EventAnswer
 }
 
 // 25 to 27: the tests of an event's objects.
-fn test_objects(
-    rec: &[u8],
-    t: &[u32; 1684],
-    lay: Layout,
-    act: usize,
-    objs: &[u8],
-) -> EventAnswer
+fn test_objects(rec: &[u8], t: &[u32; 1684], lay: Layout, act: usize, objs: &[u8]) -> EventAnswer
     requires { ⌜ Counted (now t) (now rec) lay act (wordsOf (now objs)) ⌝ }
     ensures code { λ r. ⌜ eventCode r ≡ first (objectTests (netIn (now (t .entry))) (stateAt (now (rec .entry)) .kinds) act (wordsOf (now (objs .entry)))) ⌝ }
 {
@@ -72,13 +64,7 @@ fn test_objects(
 }
 
 // 21 to 27: the first that applies.
-fn refuse(
-    rec: &[u8],
-    t: &[u32; 1684],
-    lay: Layout,
-    act: usize,
-    objs: &[u8],
-) -> EventAnswer
+fn refuse(rec: &[u8], t: &[u32; 1684], lay: Layout, act: usize, objs: &[u8]) -> EventAnswer
     requires { ⌜ Ready (now t) (now rec) ⌝ }
     requires { ⌜ lay ≡ layoutOf (netIn (now t)) (now rec) ⌝ }
     ensures code { λ r. ⌜ eventCode r ≡ answerS (netIn (now (t .entry))) (stateAt (now (rec .entry))) (askEvent act (wordsOf (now (objs .entry)))) ⌝ }
@@ -99,13 +85,7 @@ fn refuse(
 }
 
 // Every object of the event jumps where it has to, and is moved; the activity's jumps are added once, behind the last object.
-fn step_objects(
-    rec: &mut [u8],
-    t: &[u32; 1684],
-    lay: Layout,
-    act: usize,
-    objs: &[u8],
-)
+fn step_objects(rec: &mut [u8], t: &[u32; 1684], lay: Layout, act: usize, objs: &[u8])
     requires { ⌜ Moving (now t) (now rec) lay act (wordsOf (now objs)) ⌝ }
     ensures { λ _. ⌜ wordsOf (now (rec .exit)) ≡ numbersOf (tableIn (now (rec .entry))) (movedState (netIn (now (t .entry))) (stateAt (now (rec .entry))) act (wordsOf (now (objs .entry)))) ⌝ }
 {
@@ -124,13 +104,7 @@ fn step_objects(
 }
 
 // An event to which none of 21 to 27 applies is carried out and counted.
-fn take_event(
-    rec: &mut [u8],
-    t: &[u32; 1684],
-    lay: Layout,
-    act: usize,
-    objs: &[u8],
-)
+fn take_event(rec: &mut [u8], t: &[u32; 1684], lay: Layout, act: usize, objs: &[u8])
     requires { ⌜ Moving (now t) (now rec) lay act (wordsOf (now objs)) ⌝ }
     ensures { λ _. ⌜ wordsOf (now (rec .exit)) ≡ numbersOf (tableIn (now (rec .entry))) (afterEvent (netIn (now (t .entry))) (stateAt (now (rec .entry))) (record { act = act; objs = wordsOf (now (objs .entry)) })) ⌝ }
 {

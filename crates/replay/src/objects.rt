@@ -64,12 +64,7 @@ fn take_kinds(
 }
 
 // 25, 26, 27 or 0, by an event's objects and the register, four bytes each.
-pub fn refuse_objects(
-    objs: &[u8],
-    act: usize,
-    register: &[u8],
-    t: &[u32; 1684],
-) -> u32
+pub fn refuse_objects(objs: &[u8], act: usize, register: &[u8], t: &[u32; 1684]) -> u32
     requires { ⌜ Held (now t) ⌝ }
     requires { ⌜ KnownKinds (netIn (now t)) (wordsOf (now register)) ⌝ }
     requires { ⌜ (length (wordsOf (now objs)) ≤ 8) × (act < netIn (now t) .acts) ⌝ }
