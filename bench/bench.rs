@@ -299,6 +299,7 @@ fn main() {
     };
     print_head("1,000,000 events, jumps included (event and program: time an event)");
     all_four("table M", &gen::marking(1_000_000));
+    all_four("mixed net", &gen::mixed(1_000_000));
     all_four("full net", &gen::ring(64, 1024, 1_000_000));
     print_head("growth with events: 64 places, 1,024 objects");
     for count in [1000, 10_000, 100_000] {

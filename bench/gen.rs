@@ -81,3 +81,21 @@ pub fn ring(places: usize, objects: usize, event_count: usize) -> Input {
     let kinds: Vec<u32> = (0..objects).map(|o| (o % 8) as u32).collect();
     Input::new(&net, &kinds, event_count)
 }
+
+/// Between table M and the full net: 8 kinds, 64 places, 256 objects, and 64 activities of 1 to 8 arcs, as many of each.
+/// The places of a kind are a ring, as above.
+pub fn mixed(event_count: usize) -> Input {
+    let at = |kind: usize, i: usize| kind * 8 + i % 8;
+    let net = Net {
+        kinds: (0..8).map(|k| Kind { source: at(k, 0), sink: at(k, 7) }).collect(),
+        places: (0..64).map(|p| p / 8).collect(),
+        activities: (0..64)
+            .map(|a| {
+                let (first, more, i) = (a / 8, a % 8, a / 8 + a % 8);
+                (first..=first + more).map(|k| Arc { input: at(k % 8, i), output: at(k % 8, i + 1) }).collect()
+            })
+            .collect(),
+    };
+    let kinds: Vec<u32> = (0..256).map(|o| o % 8).collect();
+    Input::new(&net, &kinds, event_count)
+}

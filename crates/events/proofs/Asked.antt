@@ -4,14 +4,13 @@ use mathlib.Core.Bool.{Bool, true, false, not}
 use mathlib.Core.Path.{_≡_, refl, ap, sym, _∙_}
 use mathlib.Core.List.{List, [], _∷_, _++_, append-assoc}
 use native.Mathlib.Omega.{arith}
-use native.Mathlib.Numerals.{add-one}
 use lib.Dec.{leb}
-use lib.ListN.{length, getD, set, take, drop, length-map, length-append}
-use lib.Seq.{take-all, take-suc, take-suc-set, take-at, drop-at, getD-take}
+use lib.ListN.{length, getD, take, drop, length-map, length-append}
+use lib.Seq.{take-at, drop-at}
 use Rattle.words.specs.Lists.{any, twice}
 use Rattle.words.specs.Refusals.{first}
 use Rattle.words.specs.Words.{wordsOf, bytesOf}
-use Rattle.words.proofs.Lists.{All-at, map-at, map-append}
+use Rattle.words.proofs.Lists.{All-at, map-at}
 use Rattle.words.proofs.Words.{length-words, length-bytes, words-of-bytes}
 use Rattle.net.specs.Net.{Net, GoodArc, takes, inputOf, outputOf}
 use Rattle.net.specs.Held.{netIn}
@@ -21,20 +20,11 @@ use Rattle.replay.specs.Record.{counts, contents, encode, tableIn, stateIn}
 use Rattle.replay.specs.Calls.{netAt, stateAt}
 use Rattle.replay.specs.Offsets.{layoutOf}
 use Rattle.replay.specs.Ready.{Ready, KnownKinds}
-use Rattle.events.specs.Answers.{ObjectCode, Counted, Moving, Kinds}
+use Rattle.events.specs.Answers.{ObjectCode, Counted, Moving}
 use Rattle.replay.specs.declared.layout.Layout.{Layout}
 use Rattle.replay.proofs.Encode.{fit-kinds}
 use Rattle.replay.proofs.RecordLaws.{Placed, get-events, ready-loaded, ready-sound, ready-words, ready-length}
 use Rattle.moves.proofs.Layouts.{placed-at, words-size, words-few, kind-of-in}
-
--- kinds read one by one
-module _ (rs os : List ℕ) where
-  pub kinds-more : (ks : List ℕ) (i v : ℕ) → i < length ks → i < length os → v ≡ getD rs (getD os i 0) 0 → take i ks ≡ kindsOf rs (take i os) → take (i + 1) (set ks i v) ≡ kindsOf rs (take (i + 1) os)
-  kinds-more ks i v h g e q =
-      rw add-one (take-suc-set ks i v h ∙ rw (q, e, take-suc os i 0 g) (sym (map-append (λ (o : ℕ). getD rs o 0) (take i os) (getD os i 0 ∷ []))))
-
-  pub kinds-all : (ks : List ℕ) (i : ℕ) → i ≡ length os → take i ks ≡ kindsOf rs (take i os) → take (length os) ks ≡ kindsOf rs os
-  kinds-all ks i e q = ap (λ (n : ℕ). take n ks) (sym e) ∙ q ∙ ap (kindsOf rs) (take-all i os (omega arith))
 
 -- what the tests of an event's objects give
 pub object-code : (N : Net) (ks : List ℕ) (a : ℕ) (os : List ℕ) → ObjectCode (first (objectTests N ks a os))
@@ -93,10 +83,6 @@ module _ (w b : List ℕ) (l : Layout) (a : ℕ) (os : List ℕ) (M : Moving w b
 
   pub kind-is : (i : ℕ) → i < length os → getD (kindsOf (stateAt b .kinds) os) i 0 ≡ getD (stateAt b .kinds) (getD os i 0) 0
   kind-is i h = map-at (λ (o : ℕ). getD (stateAt b .kinds) o 0) 0 0 os i h
-
-  -- of the kinds kept, each is the object's own
-  pub kind-kept : (ks : List ℕ) → Kinds b os ks → (i : ℕ) → i < length os → getD ks i 0 ≡ getD (stateAt b .kinds) (getD os i 0) 0
-  kind-kept ks e i h = sym (getD-take (length os) ks i 0 h) ∙ ap (λ (v : List ℕ). getD v i 0) e ∙ kind-is i h
 
   -- the jumps of the activity are one of the counts
   pub own-in : (l .counts + (4 + 2 * a) < l .jumps) × (l .jumps ≤ 7461)

@@ -3,7 +3,7 @@ use Prim.Native.Nat.{ℕ, _≤_, _<_}
 use mathlib.Core.Bool.{true}
 use mathlib.Core.Path.{_≡_}
 use mathlib.Core.List.{List}
-use lib.ListN.{length, take}
+use lib.ListN.{length}
 use Rattle.words.specs.Lists.{All}
 use Rattle.net.specs.Net.{takes}
 use Rattle.net.specs.Held.{netIn}
@@ -46,7 +46,3 @@ pub record Moving (w b : List ℕ) (l : Layout) (a : ℕ) (os : List ℕ) : Type
   pub counted : Counted w b l a os
   pub known : All (λ (o : ℕ). o < length (stateAt b .kinds)) os
   pub taken : All (λ (k : ℕ). takes (netIn w) a k ≡ true) (kindsOf (stateAt b .kinds) os)
-
--- the first of the numbers ks are the objects' kinds
-abbrev pub Kinds : List ℕ → List ℕ → List ℕ → Type 0
-Kinds b os ks = take (length os) ks ≡ kindsOf (stateAt b .kinds) os

@@ -8,19 +8,16 @@ use replay::layout::Layout;
 use replay::layout::read_layout;
 use replay::objects::refuse_objects;
 ghost use mathlib.Core.Path.{_≡_};
-ghost use Prim.Native.Nat.{ℕ, _≤_, _<_};
-ghost use lib.ListN.{length, take};
-ghost use Rattle.words.specs.Lists.{All};
 ghost use Rattle.words.specs.Refusals.{first};
 ghost use Rattle.words.specs.Words.{wordsOf};
 ghost use Rattle.net.specs.Held.{netIn};
-ghost use Rattle.replay.specs.Plain.{kindsOf, objectTests};
+ghost use Rattle.replay.specs.Plain.{objectTests};
 ghost use Rattle.replay.specs.State.{answerS, afterEvent};
 ghost use Rattle.replay.specs.Record.{tableIn, recordWords};
 ghost use Rattle.replay.specs.Calls.{stateAt, askCode, askBytes};
 ghost use Rattle.replay.specs.Offsets.{layoutOf};
 ghost use Rattle.replay.specs.Ready.{Ready};
-ghost use Rattle.events.specs.Answers.{eventCode, askEvent, ObjectCode, Counted, Moving, Kinds};
+ghost use Rattle.events.specs.Answers.{eventCode, askEvent, ObjectCode, Counted, Moving};
 ghost use Rattle.events.specs.Moved.{movedState};
 
 // The answer to an event. `eventCode` gives document 01's number.
@@ -55,39 +52,21 @@ fn object_answer(code: u32) -> EventAnswer
     }
 }
 
-// 25 to 27: the tests of an event's objects. Where none applies, their kinds are put into `kinds`.
-fn test_objects(
-    rec: &[u8],
-    t: &[u32; 1684],
-    lay: Layout,
-    act: usize,
-    objs: &[u8],
-    kinds: &mut [u32; 8],
-) -> EventAnswer
+// 25 to 27: the tests of an event's objects.
+fn test_objects(rec: &[u8], t: &[u32; 1684], lay: Layout, act: usize, objs: &[u8]) -> EventAnswer
     requires { ⌜ Counted (now t) (now rec) lay act (wordsOf (now objs)) ⌝ }
-    requires { ⌜ length (now kinds) ≡ 8 ⌝ }
     ensures code { λ r. ⌜ eventCode r ≡ first (objectTests (netIn (now (t .entry))) (stateAt (now (rec .entry)) .kinds) act (wordsOf (now (objs .entry)))) ⌝ }
-    ensures kinds { λ r. ⌜ (eventCode r ≡ 0 → Kinds (now (rec .entry)) (wordsOf (now (objs .entry))) (now (kinds .exit))) ⌝ }
 {
     let from = 4 * lay.register;
     let to = 4 * lay.positions;
-    object_answer(refuse_objects(objs, act, &rec[from..to], t, kinds))
+    object_answer(refuse_objects(objs, act, &rec[from..to], t))
 }
 
-// 21 to 27: the first that applies. Where none does, the objects' kinds are put into `kinds`.
-fn refuse(
-    rec: &[u8],
-    t: &[u32; 1684],
-    lay: Layout,
-    act: usize,
-    objs: &[u8],
-    kinds: &mut [u32; 8],
-) -> EventAnswer
+// 21 to 27: the first that applies.
+fn refuse(rec: &[u8], t: &[u32; 1684], lay: Layout, act: usize, objs: &[u8]) -> EventAnswer
     requires { ⌜ Ready (now t) (now rec) ⌝ }
     requires { ⌜ lay ≡ layoutOf (netIn (now t)) (now rec) ⌝ }
-    requires { ⌜ length (now kinds) ≡ 8 ⌝ }
     ensures code { λ r. ⌜ eventCode r ≡ answerS (netIn (now (t .entry))) (stateAt (now (rec .entry))) (askEvent act (wordsOf (now (objs .entry)))) ⌝ }
-    ensures kinds { λ r. ⌜ (eventCode r ≡ 0 → Kinds (now (rec .entry)) (wordsOf (now (objs .entry))) (now (kinds .exit))) ⌝ }
 {
     if words::get_word(rec, lay.counts) != 0 {
         return EventAnswer::Closed;
@@ -101,34 +80,12 @@ fn refuse(
     if objs.len() / 4 != look::arcs(t, act) {
         return EventAnswer::Number;
     }
-    test_objects(rec, t, lay, act, objs, kinds)
-}
-
-// The kinds of known objects, by the register's bytes.
-fn read_kinds(register: &[u8], objs: &[u8], kinds: &mut [u32; 8])
-    requires { ⌜ All (λ (o : ℕ). o < length (wordsOf (now register))) (wordsOf (now objs)) ⌝ }
-    requires { ⌜ (length (wordsOf (now objs)) ≤ 8) × (length (now kinds) ≡ 8) ⌝ }
-    ensures { λ _. ⌜ take (length (wordsOf (now (objs .entry)))) (now (kinds .exit)) ≡ kindsOf (wordsOf (now (register .entry))) (wordsOf (now (objs .entry))) ⌝ }
-{
-    let n = objs.len() / 4;
-    let mut i = 0;
-    while i < n {
-        kinds[i] = words::get_word(register, words::wide(words::get_word(objs, i)));
-        i += 1;
-    }
+    test_objects(rec, t, lay, act, objs)
 }
 
 // Every object of the event jumps where it has to, and is moved; the activity's jumps are added once, behind the last object.
-fn step_objects(
-    rec: &mut [u8],
-    t: &[u32; 1684],
-    lay: Layout,
-    act: usize,
-    objs: &[u8],
-    kinds: &[u32; 8],
-)
+fn step_objects(rec: &mut [u8], t: &[u32; 1684], lay: Layout, act: usize, objs: &[u8])
     requires { ⌜ Moving (now t) (now rec) lay act (wordsOf (now objs)) ⌝ }
-    requires { ⌜ Kinds (now rec) (wordsOf (now objs)) (now kinds) ⌝ }
     ensures { λ _. ⌜ wordsOf (now (rec .exit)) ≡ recordWords (tableIn (now (rec .entry))) (movedState (netIn (now (t .entry))) (stateAt (now (rec .entry))) act (wordsOf (now (objs .entry)))) ⌝ }
 {
     let n = objs.len() / 4;
@@ -136,7 +93,7 @@ fn step_objects(
     let mut jumps = 0u32;
     while done < n {
         let o = words::wide(words::get_word(objs, done));
-        let k = words::wide(kinds[done]);
+        let k = words::wide(words::get_behind(rec, lay.register, o));
         let inp = look::input(t, act, k);
         let out = look::output(t, act, k) as u32;
         jumps += move_object(rec, lay, o, inp, out);
@@ -146,19 +103,11 @@ fn step_objects(
 }
 
 // An event to which none of 21 to 27 applies is carried out and counted.
-fn take_event(
-    rec: &mut [u8],
-    t: &[u32; 1684],
-    lay: Layout,
-    act: usize,
-    objs: &[u8],
-    kinds: &[u32; 8],
-)
+fn take_event(rec: &mut [u8], t: &[u32; 1684], lay: Layout, act: usize, objs: &[u8])
     requires { ⌜ Moving (now t) (now rec) lay act (wordsOf (now objs)) ⌝ }
-    requires { ⌜ Kinds (now rec) (wordsOf (now objs)) (now kinds) ⌝ }
     ensures { λ _. ⌜ wordsOf (now (rec .exit)) ≡ recordWords (tableIn (now (rec .entry))) (afterEvent (netIn (now (t .entry))) (stateAt (now (rec .entry))) (record { act = act; objs = wordsOf (now (objs .entry)) })) ⌝ }
 {
-    step_objects(rec, t, lay, act, objs, kinds);
+    step_objects(rec, t, lay, act, objs);
     add_one(rec, lay.counts + 1);
     add_one(rec, lay.counts + (3 + 2 * act));
 }
@@ -170,11 +119,7 @@ pub fn apply(rec: &mut [u8], t: &[u32; 1684], act: u32, objs: &[u8])
     ensures { λ _. ⌜ now (rec .exit) ≡ askBytes (now (rec .entry)) (askEvent act (wordsOf (now (objs .entry)))) ⌝ }
 {
     let lay = read_layout(rec, t);
-    let from = 4 * lay.register;
-    let to = 4 * lay.positions;
-    let mut kinds = [0u32; 8];
-    read_kinds(&rec[from..to], objs, &mut kinds);
-    take_event(rec, t, lay, act as usize, objs, &kinds);
+    take_event(rec, t, lay, act as usize, objs);
 }
 
 // Puts an event to a trail: it is refused and nothing changes, or it is carried out in the record's bytes.
@@ -183,11 +128,10 @@ pub fn event(rec: &mut [u8], t: &[u32; 1684], act: u32, objs: &[u8]) -> EventAns
     ensures { λ r. ⌜ (eventCode r ≡ askCode (now (rec .entry)) (askEvent act (wordsOf (now (objs .entry))))) × (now (rec .exit) ≡ askBytes (now (rec .entry)) (askEvent act (wordsOf (now (objs .entry))))) ⌝ }
 {
     let lay = read_layout(rec, t);
-    let mut kinds = [0u32; 8];
-    let answer = refuse(rec, t, lay, act as usize, objs, &mut kinds);
+    let answer = refuse(rec, t, lay, act as usize, objs);
     match answer {
         EventAnswer::Taken => {
-            take_event(rec, t, lay, act as usize, objs, &kinds);
+            take_event(rec, t, lay, act as usize, objs);
             EventAnswer::Taken
         }
         _ => answer,

@@ -25,7 +25,7 @@ fn index_row(w: &[u32; 1684], from: usize, n: usize, t: &mut [u32; 1684], base: 
         let p = w[INPUTS + 2 * j];
         let q = w[OUTPUTS + 2 * j];
         let k = wide(w[PLACES + wide(p)]);
-        t[base + k] = p + 1 + 256 * q;
+        t[base + k] = p + 256 * q + 65536;
         i += 1;
     }
 }

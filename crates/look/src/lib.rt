@@ -11,8 +11,9 @@ ghost use mathlib.Core.Path.{_≡_};
 ghost use mathlib.Core.Bool.{true};
 ghost use Prim.Native.Nat.{_<_};
 ghost use lib.ListN.{length};
+ghost use Rattle.words.specs.Lists.{pick};
 ghost use Rattle.net.specs.Net.{takes, inputOf, outputOf};
-ghost use Rattle.net.specs.Held.{netIn, Held};
+ghost use Rattle.net.specs.Held.{netIn, Held, pack};
 
 pub fn kinds(t: &[u32; 1684]) -> usize
     requires { ⌜ Held (now t) ⌝ }
@@ -71,13 +72,26 @@ pub fn arcs(t: &[u32; 1684], a: usize) -> usize
     wide(t[COUNTS + a])
 }
 
-// Activity a takes objects of kind k.
+// The look-up word of activity a and kind k: an arc in one number, or 0. The row is cut out first, so that its start is worked out
+// once for all objects of an event.
+fn arc_word(t: &[u32; 1684], a: usize, k: usize) -> usize
+    requires { ⌜ Held (now t) ⌝ }
+    requires { ⌜ (a < netIn (now t) .acts) × (k < netIn (now t) .kinds) ⌝ }
+    ensures { λ r. ⌜ r ≡ pick (takes (netIn (now (t .entry))) a k) (pack (inputOf (netIn (now (t .entry))) a k, outputOf (netIn (now (t .entry))) a k)) 0 ⌝ }
+{
+    let row = INDEX + 8 * a;
+    let all = &t[..];
+    let words = &all[row..];
+    wide(words[k])
+}
+
+// Activity a takes an object of kind k.
 pub fn takes_kind(t: &[u32; 1684], a: usize, k: usize) -> bool
     requires { ⌜ Held (now t) ⌝ }
     requires { ⌜ (a < netIn (now t) .acts) × (k < netIn (now t) .kinds) ⌝ }
     ensures { λ r. ⌜ r ≡ takes (netIn (now (t .entry))) a k ⌝ }
 {
-    t[INDEX + 8 * a + k] != 0
+    arc_word(t, a, k) != 0
 }
 
 // The place from which activity a takes an object of kind k.
@@ -86,7 +100,7 @@ pub fn input(t: &[u32; 1684], a: usize, k: usize) -> usize
     requires { ⌜ (a < netIn (now t) .acts) × (k < netIn (now t) .kinds) × (takes (netIn (now t)) a k ≡ true) ⌝ }
     ensures { λ r. ⌜ r ≡ inputOf (netIn (now (t .entry))) a k ⌝ }
 {
-    wide(t[INDEX + 8 * a + k]) % 256 - 1
+    arc_word(t, a, k) % 256
 }
 
 // The place on which activity a leaves an object of kind k.
@@ -95,5 +109,5 @@ pub fn output(t: &[u32; 1684], a: usize, k: usize) -> usize
     requires { ⌜ (a < netIn (now t) .acts) × (k < netIn (now t) .kinds) × (takes (netIn (now t)) a k ≡ true) ⌝ }
     ensures { λ r. ⌜ r ≡ outputOf (netIn (now (t .entry))) a k ⌝ }
 {
-    wide(t[INDEX + 8 * a + k]) / 256
+    arc_word(t, a, k) / 256 % 256
 }

@@ -3,20 +3,28 @@
 
 use replay::layout::Layout;
 ghost use mathlib.Core.Path.{_≡_};
-ghost use Prim.Native.Nat.{_≤_};
+ghost use Prim.Native.Nat.{_+_, _≤_};
 ghost use lib.Dec.{eqb};
 ghost use Rattle.words.specs.Lists.{pick};
 ghost use Rattle.words.specs.Words.{wordsOf};
 ghost use Rattle.replay.specs.State.{bump};
 ghost use Rattle.moves.specs.Moves.{raise, jumpsTo, goWords, CanAdd, CanMove};
 
+// Number i of the record's numbers behind the first `base` is d more.
+fn add_behind(rec: &mut [u8], base: usize, i: usize, d: u32)
+    requires { ⌜ CanAdd (base + i) d (wordsOf (now rec)) ⌝ }
+    ensures { λ _. ⌜ wordsOf (now (rec .exit)) ≡ raise (wordsOf (now (rec .entry))) (base + i) d ⌝ }
+{
+    let x = words::get_behind(rec, base, i);
+    words::put_behind(rec, base, i, x + d);
+}
+
 // Number i of the record is d more.
 pub fn add(rec: &mut [u8], i: usize, d: u32)
     requires { ⌜ CanAdd i d (wordsOf (now rec)) ⌝ }
     ensures { λ _. ⌜ wordsOf (now (rec .exit)) ≡ raise (wordsOf (now (rec .entry))) i d ⌝ }
 {
-    let x = words::get_word(rec, i);
-    words::put_word(rec, i, x + d);
+    add_behind(rec, 0, i, d);
 }
 
 // Number i of the record is one more.
@@ -43,10 +51,9 @@ pub fn move_object(rec: &mut [u8], lay: Layout, o: usize, inp: usize, out: u32) 
     requires { ⌜ CanMove lay o inp (wordsOf (now rec)) ⌝ }
     ensures { λ r. ⌜ (wordsOf (now (rec .exit)) ≡ goWords lay o inp out (wordsOf (now (rec .entry)))) × (r ≡ jumpsTo lay o inp (wordsOf (now (rec .entry)))) × (r ≤ 1) ⌝ }
 {
-    let p = lay.positions + o;
-    let at = words::get_word(rec, p) as usize;
+    let at = words::get_behind(rec, lay.positions, o) as usize;
     let d = jumps(at, inp);
-    add(rec, lay.jumps + (at * lay.places + inp), d);
-    words::put_word(rec, p, out);
+    add_behind(rec, lay.jumps, at * lay.places + inp, d);
+    words::put_behind(rec, lay.positions, o, out);
     d
 }

@@ -1,5 +1,5 @@
 -- Words that hold a loaded net: the net, the sizes, and the look-up words. Assumes nothing.
-use Prim.Native.Nat.{ℕ, _+_, _*_, _/_, _<_}
+use Prim.Native.Nat.{ℕ, _+_, _*_, _/_, _%_, _<_}
 use mathlib.Core.Bool.{true, false}
 use mathlib.Core.Path.{_≡_, refl, ap, sym, subst, _∙_}
 use mathlib.Core.List.{List, []}
@@ -119,10 +119,14 @@ module _ (w : List ℕ) (H : Held w) where
       (sym table-net)
       (λ a k h g. ap (λ (v : List ℕ). getD v (1172 + 8 * a + k) 0) (H .words) ∙ loaded-index (H .table) (H .before) (H .size) (H .taken) a k h g)
 
-  pub index-some : (a k : ℕ) → a < netIn w .acts → k < netIn w .kinds → takes (netIn w) a k ≡ true
-      → getD w (1172 + 8 * a + k) 0 ≡ pack (inputOf (netIn w) a k, outputOf (netIn w) a k)
-  index-some a k h g e = index-at a k h g ∙ rw e
+  -- the arc of a kind that activity a takes joins known places
+  pub arc-in : (a k : ℕ) → a < netIn w .acts → takes (netIn w) a k ≡ true → GoodArc (netIn w) (inputOf (netIn w) a k, outputOf (netIn w) a k)
+  arc-in a k h e = arc-has (netIn w .kindOf) (GoodArc (netIn w)) k (netIn w .arcs a) (held-loaded .arc-good a h) e
 
-  -- the input place of a kind that activity a takes is a known place
-  pub input-in : (a k : ℕ) → a < netIn w .acts → takes (netIn w) a k ≡ true → inputOf (netIn w) a k < netIn w .places
-  input-in a k h e = arc-has (netIn w .kindOf) (GoodArc (netIn w)) k (netIn w .arcs a) (held-loaded .arc-good a h) e .inp
+  -- its places, out of the look-up word
+  pub unpacked : (a k n : ℕ) → a < netIn w .acts → takes (netIn w) a k ≡ true → n ≡ pick (takes (netIn w) a k) (pack (inputOf (netIn w) a k, outputOf (netIn w) a k)) 0
+      → (n % 256 ≡ inputOf (netIn w) a k) × (n / 256 % 256 ≡ outputOf (netIn w) a k)
+  unpacked a k n h e q =
+      let g = arc-in a k h e in
+      let f : n ≡ pack (inputOf (netIn w) a k, outputOf (netIn w) a k) = rw e at q in
+      (omega (arith, g .inp, g .out, held-loaded .places-le), omega (arith, g .inp, g .out, held-loaded .places-le))

@@ -30,7 +30,7 @@ netIn w = netFrom (endsIn w) (placesIn w) (countsIn w) (arcsIn w)
 
 -- an arc in one number; never 0
 abbrev pub pack : Arc → ℕ
-pack x = x .0 + 1 + 256 * x .1
+pack x = x .0 + 256 * x .1 + 65536
 
 -- the look-up words of one activity: each arc at its kind
 abbrev pub indexRow : (ℕ → ℕ) → ℕ → List Arc → List ℕ → List ℕ

@@ -3,13 +3,14 @@ use Prim.Native.Nat.{ℕ, _+_, _≤_, _<_}
 use mathlib.Core.Bool.{Bool, true, false, not}
 use mathlib.Core.Path.{_≡_, refl, ap, subst, _∙_}
 use mathlib.Core.List.{List, [], _∷_}
+use native.Mathlib.Nat.{add-zero}
 use native.Mathlib.Numerals.{add-one}
 use native.Mathlib.Omega.{arith}
-use lib.Dec.{leb}
+use lib.Dec.{leb, eqb}
 use lib.ListN.{length, getD, set, take, drop, length-map}
 use lib.Seq.{sets, drop-cons, length-sets}
-use borrow.Author.Tests.{le-leb, lt-leb}
-use Rattle.words.specs.Lists.{pick, any}
+use borrow.Author.Tests.{le-leb, lt-leb, ne-eqb}
+use Rattle.words.specs.Lists.{pick, any, one}
 use Rattle.net.specs.Net.{Net, takes}
 use Rattle.net.proofs.Sets.{view-same}
 use Rattle.replay.specs.Plain.{kindsOf}
@@ -38,6 +39,14 @@ module _ (N : Net) (ks : List ℕ) (a code : ℕ) (all : List ℕ) where
 
   pub left-none : all ≡ [] → code ≡ kindsLeft N ks a all code
   left-none e = rw e
+
+-- 26 where some object's kind is foreign to the activity, by how many are
+abbrev pub foreignCode : ℕ → ℕ
+foreignCode others = pick (eqb others 0) 0 26
+
+pub foreign-more : (others : ℕ) (f : Bool) → foreignCode (others + one f) ≡ pick f 26 (foreignCode others)
+foreign-more others true = rw (ne-eqb (others + 1) 0 (λ e. omega arith))
+foreign-more others false = rw (add-zero others)
 
 -- one more element is stored
 pub store-one : (xs : List ℕ) (i x y : ℕ) (rest all : List ℕ) → all ≡ y ∷ rest → x ≡ y → sets (set xs i x) (i + 1) rest ≡ sets xs i all

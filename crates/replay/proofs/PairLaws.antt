@@ -44,3 +44,7 @@ module _ (l : List ℕ) (n : ℕ) (fits : n ≤ length l) where
   pub pair-none : Apart l n → false ≡ twice (take n l)
   pair-none f = sym (twice-not (take n l)
       (λ a h b k e. let w : a < n = rw length-take-le at h in f a w b k (sym (getD-take n l a 0 w) ∙ e ∙ getD-take n l b 0 (omega arith))))
+
+-- what was found among the first m, where these are the first n
+pub among : (l : List ℕ) (n m : ℕ) (r : Bool) → n ≡ m → r ≡ twice (take m l) → r ≡ twice (take n l)
+among l n m r e h = rw e h

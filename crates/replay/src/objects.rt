@@ -9,7 +9,7 @@ ghost use mathlib.Core.Path.{_≡_};
 ghost use Prim.Native.Nat.{_≤_, _<_};
 ghost use lib.ListN.{length, take};
 ghost use lib.Seq.{sets};
-ghost use Rattle.words.specs.Lists.{pick};
+ghost use Rattle.words.specs.Lists.{one};
 ghost use Rattle.words.specs.Refusals.{first};
 ghost use Rattle.words.specs.Words.{wordsOf};
 ghost use Rattle.net.specs.Held.{netIn, Held};
@@ -17,16 +17,16 @@ ghost use Rattle.net.specs.Net.{takes};
 ghost use Rattle.replay.specs.Plain.{kindsOf, objectTests};
 ghost use Rattle.replay.specs.Ready.{KnownKinds};
 
-// 26 where the activity does not take kind k, else the number found before.
-fn kind_code(t: &[u32; 1684], act: usize, k: usize, before: u32) -> u32
+// 1 where the activity does not take kind k, else 0.
+fn foreign(t: &[u32; 1684], act: usize, k: usize) -> u32
     requires { ⌜ Held (now t) ⌝ }
     requires { ⌜ (act < netIn (now t) .acts) × (k < netIn (now t) .kinds) ⌝ }
-    ensures { λ r. ⌜ r ≡ pick (not (takes (netIn (now (t .entry))) act k)) 26 before ⌝ }
+    ensures { λ r. ⌜ (r ≡ one (not (takes (netIn (now (t .entry))) act k))) × (r ≤ 1) ⌝ }
 {
-    if !takes_kind(t, act, k) {
-        return 26;
+    if takes_kind(t, act, k) {
+        return 0;
     }
-    before
+    1
 }
 
 // 25, 26 or 0, by the objects, four bytes each: 25 of any of them before 26 of any. Where it is 0, their kinds are put into `kinds`.
@@ -45,7 +45,7 @@ fn take_kinds(
 {
     let size = register.len() / 4;
     let n = objs.len() / 4;
-    let mut code = 0;
+    let mut others = 0u32;
     let mut i: usize = 0;
     while i < n {
         let o = wide(get_word(objs, i));
@@ -54,31 +54,28 @@ fn take_kinds(
         }
         let k = get_word(register, o);
         kinds[i] = k;
-        code = kind_code(t, act, wide(k), code);
+        others += foreign(t, act, wide(k));
         i += 1;
     }
-    code
+    if others != 0 {
+        return 26;
+    }
+    0
 }
 
-// 25, 26, 27 or 0, by an event's objects and the register, four bytes each. Where it is 0, `kinds` begins with the objects' kinds.
-pub fn refuse_objects(
-    objs: &[u8],
-    act: usize,
-    register: &[u8],
-    t: &[u32; 1684],
-    kinds: &mut [u32; 8],
-) -> u32
+// 25, 26, 27 or 0, by an event's objects and the register, four bytes each.
+pub fn refuse_objects(objs: &[u8], act: usize, register: &[u8], t: &[u32; 1684]) -> u32
     requires { ⌜ Held (now t) ⌝ }
     requires { ⌜ KnownKinds (netIn (now t)) (wordsOf (now register)) ⌝ }
-    requires { ⌜ (length (wordsOf (now objs)) ≤ 8) × (act < netIn (now t) .acts) × (length (now kinds) ≡ 8) ⌝ }
+    requires { ⌜ (length (wordsOf (now objs)) ≤ 8) × (act < netIn (now t) .acts) ⌝ }
     ensures code { λ r. ⌜ r ≡ first (objectTests (netIn (now (t .entry))) (wordsOf (now (register .entry))) act (wordsOf (now (objs .entry)))) ⌝ }
-    ensures kinds { λ r. ⌜ (r ≡ 0 → take (length (wordsOf (now (objs .entry)))) (now (kinds .exit)) ≡ kindsOf (wordsOf (now (register .entry))) (wordsOf (now (objs .entry)))) ⌝ }
 {
-    let code = take_kinds(objs, act, register, t, kinds);
+    let mut kinds = [0u32; 8];
+    let code = take_kinds(objs, act, register, t, &mut kinds);
     if code != 0 {
         return code;
     }
-    if two_of_kind(kinds, objs.len() / 4) {
+    if two_of_kind(&kinds, objs.len() / 4) {
         return 27;
     }
     0

@@ -129,8 +129,7 @@ fn read_event(window: &[u8], at: usize, register: &[u8], t: &[u32; 1684]) -> Ans
     let count = word_at(window, 4);
     let n = wide(count);
     let end = 8 + 4 * n;
-    let mut kinds = [0u32; 8];
-    let code = refuse_objects(&window[8..end], wide(activity), register, t, &mut kinds);
+    let code = refuse_objects(&window[8..end], wide(activity), register, t);
     if code != 0 {
         return nothing(Found::Refused(code), at);
     }

@@ -3,3 +3,4 @@ pub mod Refusals
 pub mod Sums
 pub mod Over
 pub mod Words
+pub mod Behind

@@ -56,6 +56,24 @@ pub fn put_word(s: &mut [u8], i: usize, x: u32)
     s[at + 3] = (x / 16777216 % 256) as u8;
 }
 
+// Number i of those behind the first `base`. A part that begins there is cut out, so that a caller's loop works out its start once.
+pub fn get_behind(s: &[u8], base: usize, i: usize) -> u32
+    requires { ⌜ base + i < length (wordsOf (now s)) ⌝ }
+    ensures { λ r. ⌜ r ≡ getD (wordsOf (now (s .entry))) (base + i) 0 ⌝ }
+{
+    let from = 4 * base;
+    get_word(&s[from..], i)
+}
+
+// Number i of those behind the first `base` becomes x; no other byte changes.
+pub fn put_behind(s: &mut [u8], base: usize, i: usize, x: u32)
+    requires { ⌜ base + i < length (wordsOf (now s)) ⌝ }
+    ensures { λ _. ⌜ Put (now (s .entry)) (base + i) x (now (s .exit)) ⌝ }
+{
+    let from = 4 * base;
+    put_word(&mut s[from..], i, x);
+}
+
 // What the n pairs at the front of a file say of its bodies; `laid_out`, the layout test of tables and records, asks it.
 pub fn read_bodies(s: &[u8], n: usize) -> Bodies
     requires { ⌜ 8 * n ≤ length (now s) ⌝ }

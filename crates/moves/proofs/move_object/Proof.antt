@@ -12,18 +12,15 @@ use Rattle.moves.proofs.move_object.Statement.{statement}
 use Rattle.moves.proofs.move_object.Tie as tie
 
 -- the pair of the place read can be counted up
-pair-can : (c : tie.After-get-word) → let a = c .before .before .before .before .args in CanAdd (pairAt (a .lay) (c .get-word .result) (a .inp)) 1 (wordsOf (a .rec .now))
-pair-can c = let s = c .before .before .before .before in subst (λ (p : ℕ). CanAdd (pairAt (s .args .lay) p (s .args .inp)) 1 (wordsOf (s .args .rec .now))) (sym (c .get-word .ensures)) (s .pre .pair)
+pair-can : (c : tie.After-get-behind) → let a = c .before .before .before .args in CanAdd (pairAt (a .lay) (c .get-behind .result) (a .inp)) 1 (wordsOf (a .rec .now))
+pair-can c = let s = c .before .before .before in subst (λ (p : ℕ). CanAdd (pairAt (s .args .lay) p (s .args .inp)) 1 (wordsOf (s .args .rec .now))) (sym (c .get-behind .ensures)) (s .pre .pair)
 
 -- and the jumps are those from that place
-jumps-are : (c : tie.After-jumps) → let a = c .before .before .before .before .before .args in c .jumps .result ≡ jumpsTo (a .lay) (a .o) (a .inp) (wordsOf (a .rec .now))
-jumps-are c = c .jumps .ensures .0 ∙ ap (λ (p : ℕ). pick (eqb p (c .before .before .before .before .before .args .inp)) 0 1) (c .before .get-word .ensures)
+jumps-are : (c : tie.After-jumps) → let a = c .before .before .before .before .args in c .jumps .result ≡ jumpsTo (a .lay) (a .o) (a .inp) (wordsOf (a .rec .now))
+jumps-are c = c .jumps .ensures .0 ∙ ap (λ (p : ℕ). pick (eqb p (c .before .before .before .before .args .inp)) 0 1) (c .before .get-behind .ensures)
 
-add-p : tie.Need-add-p
-add-p c = search needs
-
-get-word-requires : tie.Need-get-word-requires
-get-word-requires c κs = search needs
+get-behind-requires : tie.Need-get-behind-requires
+get-behind-requires c κs = search needs
 
 cast-at : tie.Need-cast-at
 cast-at c = search needs
@@ -31,40 +28,39 @@ cast-at c = search needs
 jumps-requires : tie.Need-jumps-requires
 jumps-requires c κs = search needs
 
-mul-add : tie.Need-mul-add
-mul-add c = omega (arith, pair-can (c .before .before .before) .inside, c .before .before .before .before .before .before .before .pre .size)
+mul-add-behind : tie.Need-mul-add-behind
+mul-add-behind c = let g = c .before .before .before in omega (arith, pair-can g .inside, g .before .before .before .pre .size)
 
-add-add : tie.Need-add-add
-add-add c = omega (arith, pair-can (c .before .before .before) .inside, c .before .before .before .before .before .before .before .pre .size)
+add-add-behind : tie.Need-add-add-behind
+add-add-behind c = let g = c .before .before .before in omega (arith, pair-can g .inside, g .before .before .before .pre .size)
 
-add-add-2 : tie.Need-add-add-2
-add-add-2 c = omega (arith, pair-can (c .before .before .before .before) .inside, c .before .before .before .before .before .before .before .before .pre .size)
+add-behind-requires : tie.Need-add-behind-requires
+add-behind-requires c κs = let p = pair-can (c .before .before .before) in record { inside = p .inside; room = omega (arith, p .room, c .before .before .jumps .ensures .1) }
 
-add-requires : tie.Need-add-requires
-add-requires c κs = let p = pair-can (c .before .before .before .before) in record { inside = p .inside; room = omega (arith, p .room, c .before .before .before .jumps .ensures .1) }
-
-put-word-requires : tie.Need-put-word-requires
-put-word-requires c κs = rw (c .before .before .before .add .ensures, length-set) (c .before .before .before .before .before .before .before .before .before .before .before .before .pre .place)
+put-behind-requires : tie.Need-put-behind-requires
+put-behind-requires c κs = let d = c .before .before .before in rw (d .add-behind .ensures, length-set) (d .before .before .before .before .before .before .before .pre .place)
 
 same-length : tie.Need-same-length
 same-length c = search needs
 
 returns : tie.Need-returns
 unfolding goWords
-returns c = let j = c .before .before .before .before .before .before .before .before .before .before in (cc (c .before .before .put-word .ensures .words, c .before .before .before .before .before .before .add .ensures, jumps-are j, c .before .before .before .before .before .before .before .before .before .before .before .get-word .ensures), jumps-are j, j .jumps .ensures .1)
+returns c =
+    let p = c .before .before in
+    let d = p .before .before .before .before in
+    let j = d .before .before .before in
+    (cc (p .put-behind .ensures .words, d .add-behind .ensures, jumps-are j, j .before .get-behind .ensures), jumps-are j, j .jumps .ensures .1)
 
 pub move-object-spec : {M : Type 1} → statement M
 move-object-spec =
     tie.close
     (tie.spec
-    add-p
-    get-word-requires
+    get-behind-requires
     cast-at
     jumps-requires
-    mul-add
-    add-add
-    add-add-2
-    add-requires
-    put-word-requires
+    mul-add-behind
+    add-add-behind
+    add-behind-requires
+    put-behind-requires
     same-length
     returns)

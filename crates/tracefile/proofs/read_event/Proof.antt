@@ -1,6 +1,6 @@
 -- Each return by the tests passed on the way. Assumes nothing.
 use Prim.Native.Nat.{ℕ, _+_, _-_, _*_}
-use mathlib.Core.Path.{_≡_, refl, ap, ap₂, sym, _∙_}
+use mathlib.Core.Path.{_≡_, ap, ap₂, sym, _∙_}
 use mathlib.Core.List.{List}
 use native.Mathlib.Omega.{arith}
 use lib.ListN.{length, take, drop, replicate}
@@ -32,19 +32,19 @@ handed c =
     let e : 8 + 4 * c .wide .result - 8 ≡ 4 * word w 4 = omega (arith, count c) in
     ap (λ (k : ℕ). wordsOf (take k (drop 8 w))) e ∙ bytes-objects w (word w 4) 8 (c .before .before .before .before .before .pre .1 .1 .room)
 
-stored : (c : tie.After-read-objects) → let w = bytes (c .before .before .before .before .before .before) in c .read-objects .result ≡ sets (replicate 8 0) 0 (wordsAt w 8 (word w 4))
+stored : (c : tie.After-read-objects) → let w = bytes (c .before .before .before .before .before) in c .read-objects .result ≡ sets (replicate 8 0) 0 (wordsAt w 8 (word w 4))
 stored c =
-    let k = c .before .before .before .before .before .before in
+    let k = c .before .before .before .before .before in
     c .read-objects .ensures ∙ ap (λ (n : ℕ). sets (replicate 8 0) 0 (wordsAt (bytes k) 8 n)) (count k)
 
-code : (c : tie.After-refuse-objects) → let w = bytes (c .before .before .before .before) in let a = c .before .before .before .before .before .before .before .before .before .args in
+code : (c : tie.After-refuse-objects) → let w = bytes (c .before .before .before) in let a = c .before .before .before .before .before .before .before .before .args in
     c .refuse-objects .result ≡ first (objectTests (netIn (a .t .now)) (wordsOf (a .register .now)) (word w 0) (wordsAt w 8 (word w 4)))
 code c =
-    let k = c .before .before .before .before in
+    let k = c .before .before .before in
     let a = k .before .before .before .before .before .args in
-    let e : c .refuse-objects .result ≡ first (objectTests (netIn (a .t .now)) (wordsOf (a .register .now)) (c .before .before .wide2 .result) (wordsOf (take (8 + 4 * k .wide .result - 8) (drop 8 (bytes k))))) = c .refuse-objects .ensures .0 in
+    let e : c .refuse-objects .result ≡ first (objectTests (netIn (a .t .now)) (wordsOf (a .register .now)) (c .before .wide2 .result) (wordsOf (take (8 + 4 * k .wide .result - 8) (drop 8 (bytes k))))) = c .refuse-objects .ensures in
     e
-    ∙ ap₂ (λ (x : ℕ) (os : List ℕ). first (objectTests (netIn (a .t .now)) (wordsOf (a .register .now)) x os)) (c .before .before .wide2 .ensures ∙ k .before .before .word-at .ensures) (handed k)
+    ∙ ap₂ (λ (x : ℕ) (os : List ℕ). first (objectTests (netIn (a .t .now)) (wordsOf (a .register .now)) x os)) (c .before .wide2 .ensures ∙ k .before .before .word-at .ensures) (handed k)
 
 word-at-requires : tie.Need-word-at-requires
 word-at-requires c κs = search needs
@@ -75,10 +75,10 @@ wide-requires-2 c κs = search needs
 
 refuse-objects-requires : tie.Need-refuse-objects-requires
 refuse-objects-requires c κs =
-    let k = c .before .before .before in
+    let k = c .before .before in
     let s = k .before .before .before .before .before in
     let w = bytes k in
-    (s .pre .0, (s .pre .1 .0, (omega (arith, ap length (handed k), length-at w 8 (word w 4), s .pre .1 .1 .few), omega (arith, s .pre .1 .1 .act), refl)))
+    (s .pre .0, (s .pre .1 .0, (omega (arith, ap length (handed k), length-at w 8 (word w 4), s .pre .1 .1 .few), omega (arith, s .pre .1 .1 .act))))
 
 nothing-requires : tie.Need-nothing-requires
 nothing-requires c κs = search needs
@@ -90,19 +90,19 @@ returns c = c .nothing .ensures ∙ refused-is _ _ _ _ (code (c .before .before)
 read-objects-requires : tie.Need-read-objects-requires
 read-objects-requires c κs = search needs
 
-add-t11 : tie.Need-add-t11
-add-t11 c = search needs
+add-t10 : tie.Need-add-t10
+add-t10 c = search needs
 
-mul-t15 : tie.Need-mul-t15
-mul-t15 c = search needs
+mul-t14 : tie.Need-mul-t14
+mul-t14 c = search needs
 
-add-t22 : tie.Need-add-t22
-add-t22 c = search needs
+add-t20 : tie.Need-add-t20
+add-t20 c = search needs
 
 returns-2 : tie.Need-returns-2
 unfolding objectsFound
 returns-2 c =
-    let k = c .before .before .before .before .before .before in
+    let k = c .before .before .before .before .before in
     let w = bytes k in
     let at = k .before .before .before .before .before .args .at in
     event-is w at (k .before .before .word-at .ensures) (k .before .word-at2 .ensures) (stored c) (ap (λ (n : ℕ). at + 8 + 4 * n) (count k))
@@ -125,7 +125,7 @@ read-event-spec =
     nothing-requires
     returns
     read-objects-requires
-    add-t11
-    mul-t15
-    add-t22
+    add-t10
+    mul-t14
+    add-t20
     returns-2)

@@ -50,22 +50,22 @@ enum-told : tie.Need-enum-told
 enum-told c = search needs
 
 take-event-requires : tie.Need-take-event-requires
-take-event-requires c κs = let r = c .before .before .before .before .refuse in let z = told (c .before .before) in (can-take _ _ _ _ _ (c .before .before .before .before .before .before .before .before .before .before .before .pre) (c .before .before .before .before .before .before .before .read-layout .ensures) (sym (r .ensures .0) ∙ z), r .ensures .1 z)
+take-event-requires c κs = can-take _ _ _ _ _ (c .before .before .before .before .before .before .before .before .before .pre) (c .before .before .before .before .before .read-layout .ensures) (sym (c .before .before .before .refuse .ensures) ∙ told (c .before))
 
 same-length : tie.Need-same-length
 same-length c = search needs
 
 returns : tie.Need-returns
-returns c = let s = c .before .before .before .before .before .before .before .before .before .before .before .before .before .before in let q = askEvent (s .args .act) (wordsOf (s .args .objs .now)) in
-    let z : askCode (s .args .rec .now) q ≡ 0 = sym (code-is _ _ (s .pre) q) ∙ sym (c .before .before .before .before .before .before .before .refuse .ensures .0) ∙ told (c .before .before .before .before .before) in
-    (sym z, bytes-taken _ _ (s .pre) q _ z (ready-bytes _ _ (s .pre) _ _ (c .before .before .take-event .ensures) (omega arith) (λ i. omega (arith, c .before .before .before .before .before .before .before .before .before .before .before .before .before .slice-known .given i)) (λ i. omega (arith, c .slice-known2 .given i))))
+returns c = let s = c .before .before .before .before .before .before .before .before .before .before .before .before in let q = askEvent (s .args .act) (wordsOf (s .args .objs .now)) in
+    let z : askCode (s .args .rec .now) q ≡ 0 = sym (code-is _ _ (s .pre) q) ∙ sym (c .before .before .before .before .before .before .refuse .ensures) ∙ told (c .before .before .before .before) in
+    (sym z, bytes-taken _ _ (s .pre) q _ z (ready-bytes _ _ (s .pre) _ _ (c .before .before .take-event .ensures) (omega arith) (λ i. omega (arith, c .before .before .before .before .before .before .before .before .before .before .before .slice-known .given i)) (λ i. omega (arith, c .slice-known2 .given i))))
 
 same-length-2 : tie.Need-same-length-2
 same-length-2 c = search needs
 
 returns-2 : tie.Need-returns-2
-returns-2 c = let s = c .before .before .before .before .before .before .before .before in let q = askEvent (s .args .act) (wordsOf (s .args .objs .now)) in
-    let e : eventCode (c .before .refuse .result) ≡ askCode (s .args .rec .now) q = c .before .refuse .ensures .0 ∙ code-is _ _ (s .pre) q in
+returns-2 c = let s = c .before .before .before .before .before .before .before in let q = askEvent (s .args .act) (wordsOf (s .args .objs .now)) in
+    let e : eventCode (c .before .refuse .result) ≡ askCode (s .args .rec .now) q = c .before .refuse .ensures ∙ code-is _ _ (s .pre) q in
     (e, bytes-refused _ _ (s .pre) q (λ z. not-taken (c .before .refuse .result) (c .match .keys2) (e ∙ z)))
 
 pub event-spec : {M : Type 1} → statement M

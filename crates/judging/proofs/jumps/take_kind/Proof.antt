@@ -6,7 +6,7 @@ use native.Mathlib.Nat.{mul-zero, mul-one}
 use borrow.Author.Tests.{not-true, not-false, eq-eqb, ne-eqb}
 use Rattle.net.specs.Net.{takes, inputOf}
 use Rattle.net.specs.Held.{netIn}
-use Rattle.net.proofs.HeldLaws.{held-loaded, input-in}
+use Rattle.net.proofs.HeldLaws.{held-loaded, arc-in}
 use Rattle.judging.specs.Judge.{takenBy}
 use Rattle.judging.proofs.Adding.{one-added}
 use native.Mathlib.Omega.{arith}
@@ -18,7 +18,7 @@ use Rattle.judging.proofs.jumps.take_kind.Tie as tie
 known : (c : tie.After-input) → (c .input .result < netIn (c .before .before .before .args .t .now) .places) × (c .input .result < 64)
 known c =
     let s = c .before .before .before in
-    let h = input-in (s .args .t .now) (s .pre .0) (s .args .a) (s .args .k) (s .pre .1 .0 .0) (sym (c .before .before .takes-kind .ensures) ∙ not-false _ (c .before .if1 .left)) in
+    let h = arc-in (s .args .t .now) (s .pre .0) (s .args .a) (s .args .k) (s .pre .1 .0 .0) (sym (c .before .before .takes-kind .ensures) ∙ not-false _ (c .before .if1 .left)) in
     (omega (arith, c .input .ensures), omega (arith, c .input .ensures, held-loaded (s .args .t .now) (s .pre .0) .places-le))
 
 takes-kind-requires : tie.Need-takes-kind-requires

@@ -91,11 +91,11 @@ element-copy-out-wide c = omega (arith, inp-small (c .before .before))
 wide-requires-2 : tie.Need-wide-requires-2 Inv-loop μ-loop
 wide-requires-2 c κs = search needs
 
-add-t : tie.Need-add-t Inv-loop μ-loop
-add-t c = omega (arith, inp-small (c .before .before .before .before), out-small (c .before .before .before .before))
-
 mul-t : tie.Need-mul-t Inv-loop μ-loop
 mul-t c = omega (arith, inp-small (c .before .before .before .before), out-small (c .before .before .before .before))
+
+add-t : tie.Need-add-t Inv-loop μ-loop
+add-t c = omega (arith, inp-small (c .before .before .before .before), out-small (c .before .before .before .before))
 
 add-t-2 : tie.Need-add-t-2 Inv-loop μ-loop
 add-t-2 c = omega (arith, inp-small (c .before .before .before .before), out-small (c .before .before .before .before))
@@ -160,8 +160,8 @@ index-row-spec =
     mul-wide
     element-copy-out-wide
     wide-requires-2
-    add-t
     mul-t
+    add-t
     add-t-2
     add-t-3
     mul-t-2

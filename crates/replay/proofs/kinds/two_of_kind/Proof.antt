@@ -1,90 +1,74 @@
--- The kinds passed differ from those before them, and the one at i from the first j; the pairs are left at the first that are equal. Assumes nothing.
-use Prim.Native.Nat.{ℕ, _-_, _≤_, _<_}
-use mathlib.Core.Bool.{false}
-use mathlib.Core.Path.{_≡_, refl, _∙_}
+-- Each number of objects by the loops of that length; fewer than two have no pair. Assumes nothing.
 use native.Mathlib.Omega.{arith}
-use lib.ListN.{getD}
-use borrow.Author.Count.{below-more}
 use borrow.Author.Needs.{needs}
-use Rattle.replay.proofs.PairLaws.{Apart, pair-found, pair-none}
+use Rattle.replay.proofs.PairLaws.{pair-none, among}
 use Rattle.replay.proofs.kinds.two_of_kind.Statement.{statement}
 use Rattle.replay.proofs.kinds.two_of_kind.Tie as tie
 
-abbrev Inv-loop : tie.InvT-loop
-Inv-loop kinds n found₀ i j₀ found j = (i < n) × (j ≤ i) × (found ≡ false) × Apart kinds i × ((b : ℕ) → b < j → getD kinds i 0 ≡ getD kinds b 0 → ⊥)
+returns : tie.Need-returns
+returns c = let s = c .before in pair-none (s .args .kinds .now) (s .args .n) (s .pre .1) (λ a h b l e. omega (arith, c .if1 .taken))
 
-abbrev μ-loop : tie.MeasureT-loop
-μ-loop kinds n found₀ i j₀ found j = i - j
+two-among-requires : tie.Need-two-among-requires
+two-among-requires c κs = search needs
 
-abbrev Inv-pairs : tie.InvT-pairs
-Inv-pairs kinds n found₀ i₀ found i = (found ≡ false) × Apart kinds i
+returns-2 : tie.Need-returns-2
+returns-2 c = among _ _ 2 _ (c .before .if2 .taken) (c .two-among .ensures)
 
-abbrev μ-pairs : tie.MeasureT-pairs
-μ-pairs kinds n found₀ i₀ found i = n - i
+two-among-requires-2 : tie.Need-two-among-requires-2
+two-among-requires-2 c κs = search needs
 
-pairs-holds : tie.Need-pairs-holds Inv-loop μ-loop Inv-pairs μ-pairs
-pairs-holds c = (refl, λ a h b l e. omega arith)
+two-among-requires-3 : tie.Need-two-among-requires-3
+two-among-requires-3 c κs = search needs
 
-loop-holds : tie.Need-loop-holds Inv-loop μ-loop Inv-pairs μ-pairs
-loop-holds c = let p = c .before .pairs in (c .pairs-test .taken, omega arith, p .inv .0, p .inv .1, λ b l e. omega arith)
+two-among-requires-4 : tie.Need-two-among-requires-4
+two-among-requires-4 c κs = search needs
 
-mul-if1 : tie.Need-mul-if1 Inv-loop μ-loop Inv-pairs μ-pairs
-mul-if1 c = search needs
+two-among-requires-5 : tie.Need-two-among-requires-5
+two-among-requires-5 c κs = search needs
 
-element-copy-out-if1 : tie.Need-element-copy-out-if1 Inv-loop μ-loop Inv-pairs μ-pairs
-element-copy-out-if1 c = search needs
+two-among-requires-6 : tie.Need-two-among-requires-6
+two-among-requires-6 c κs = search needs
 
-mul-if1-2 : tie.Need-mul-if1-2 Inv-loop μ-loop Inv-pairs μ-pairs
-mul-if1-2 c = search needs
+two-among-requires-7 : tie.Need-two-among-requires-7
+two-among-requires-7 c κs = search needs
 
-element-copy-out-if1-2 : tie.Need-element-copy-out-if1-2 Inv-loop μ-loop Inv-pairs μ-pairs
-element-copy-out-if1-2 c = search needs
+returns-3 : tie.Need-returns-3
+returns-3 c = among _ _ 3 _ (c .before .match .keys1) (c .two-among2 .ensures)
 
-add-j : tie.Need-add-j Inv-loop μ-loop Inv-pairs μ-pairs
-add-j c = search needs
+returns-4 : tie.Need-returns-4
+returns-4 c = among _ _ 4 _ (c .before .match .keys2) (c .two-among3 .ensures)
 
-loop-less : tie.Need-loop-less Inv-loop μ-loop Inv-pairs μ-pairs
-loop-less c = search needs
+returns-5 : tie.Need-returns-5
+returns-5 c = among _ _ 5 _ (c .before .match .keys3) (c .two-among4 .ensures)
 
-loop-again : tie.Need-loop-again Inv-loop μ-loop Inv-pairs μ-pairs
-loop-again c = let l = c .before .before .before .before .loop in (l .inv .0, omega arith, l .inv .2, l .inv .3, below-more _ _ (l .inv .4) (c .if1 .left))
+returns-6 : tie.Need-returns-6
+returns-6 c = among _ _ 6 _ (c .before .match .keys4) (c .two-among5 .ensures)
 
-add-i : tie.Need-add-i Inv-loop μ-loop Inv-pairs μ-pairs
-add-i c = search needs
+returns-7 : tie.Need-returns-7
+returns-7 c = among _ _ 7 _ (c .before .match .keys5) (c .two-among6 .ensures)
 
-pairs-less : tie.Need-pairs-less Inv-loop μ-loop Inv-pairs μ-pairs
-pairs-less c = search needs
-
-pairs-again : tie.Need-pairs-again Inv-loop μ-loop Inv-pairs μ-pairs
-pairs-again c = let l = c .before .loop in (l .inv .2, below-more _ _ (l .inv .3) (λ b h. l .inv .4 b (omega (arith, c .loop-test .left))))
-
-returns : tie.Need-returns Inv-loop μ-loop Inv-pairs μ-pairs
-returns c =
-    let p = c .before .pairs in let s = c .before .before in
-    p .inv .0 ∙ pair-none (s .args .kinds .now) (s .args .n) (omega arith) (λ a h. p .inv .1 a (omega (arith, c .pairs-test .left)))
-
-returns-2 : tie.Need-returns-2 Inv-loop μ-loop Inv-pairs μ-pairs
-returns-2 c = let s = c .before .before .before .before .before .before .before in pair-found (s .args .kinds .now) (s .args .n) (omega arith) (c .before .before .before .before .before .before .pairs .i) (c .before .before .before .before .loop .j) (c .before .before .before .before .loop .inv .0) (c .before .before .before .loop-test .taken) (c .if1 .taken)
+returns-8 : tie.Need-returns-8
+returns-8 c =
+    let s = c .before .before .before .before in
+    let r = c .before .match .rest in
+    among (s .args .kinds .now) (s .args .n) 8 _ (omega (arith, s .pre .0, c .before .before .before .if1 .left, c .before .before .if2 .left, r .0 .0 .0 .0 .1, r .0 .0 .0 .1, r .0 .0 .1, r .0 .1, r .1)) (c .two-among7 .ensures)
 
 pub two-of-kind-spec : {M : Type 1} → statement M
 two-of-kind-spec =
     tie.close
     (tie.spec
-    Inv-loop
-    μ-loop
-    Inv-pairs
-    μ-pairs
-    pairs-holds
-    loop-holds
-    mul-if1
-    element-copy-out-if1
-    mul-if1-2
-    element-copy-out-if1-2
-    add-j
-    loop-less
-    loop-again
-    add-i
-    pairs-less
-    pairs-again
     returns
-    returns-2)
+    two-among-requires
+    returns-2
+    two-among-requires-2
+    two-among-requires-3
+    two-among-requires-4
+    two-among-requires-5
+    two-among-requires-6
+    two-among-requires-7
+    returns-3
+    returns-4
+    returns-5
+    returns-6
+    returns-7
+    returns-8)

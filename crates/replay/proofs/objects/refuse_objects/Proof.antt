@@ -1,10 +1,10 @@
 -- Each return by the tests passed on the way. Assumes nothing.
 use Prim.Native.Nat.{ℕ}
 use mathlib.Core.Bool.{Bool}
-use mathlib.Core.Path.{_≡_, ap, sym, _∙_}
+use mathlib.Core.Path.{_≡_, refl, ap, sym, _∙_}
 use mathlib.Core.List.{List, [], _∷_}
 use native.Mathlib.Omega.{arith}
-use lib.ListN.{length, take}
+use lib.ListN.{length, take, replicate}
 use lib.Seq.{sets}
 use Rattle.words.specs.Lists.{pick, twice}
 use Rattle.words.specs.Refusals.{first}
@@ -19,16 +19,16 @@ use Rattle.replay.proofs.objects.refuse_objects.Statement.{statement}
 use Rattle.replay.proofs.objects.refuse_objects.Tie as tie
 
 -- the objects' kinds are stored
-stored : (c : tie.Else1) → c .before .take-kinds .last .1 .1 .1 .1 .0 ≡ sets (c .before .before .before .before .before .args .kinds .now) 0 (kindsOf (wordsOf (c .before .before .before .before .before .args .register .now)) (wordsOf (c .before .before .before .before .before .args .objs .now)))
+stored : (c : tie.Else1) → c .before .take-kinds .last .1 .1 .1 .1 .0 ≡ sets (replicate 8 0) 0 (kindsOf (wordsOf (c .before .before .before .before .before .args .register .now)) (wordsOf (c .before .before .before .before .before .args .objs .now)))
 stored c = c .before .take-kinds .ensures .1 (c .if1 .left)
 
 size : (c : tie.Else1) → length (c .before .take-kinds .last .1 .1 .1 .1 .0) ≡ 8
 size c = let s = c .before .before .before .before .before in
-    kinds-length (wordsOf (s .args .register .now)) (wordsOf (s .args .objs .now)) (s .args .kinds .now) _ (s .pre .1 .1 .2) (s .pre .1 .1 .0) (stored c)
+    kinds-length (wordsOf (s .args .register .now)) (wordsOf (s .args .objs .now)) (replicate 8 0) _ refl (s .pre .1 .1 .0) (stored c)
 
 front : (c : tie.Else1) → take (length (wordsOf (c .before .before .before .before .before .args .objs .now))) (c .before .take-kinds .last .1 .1 .1 .1 .0) ≡ kindsOf (wordsOf (c .before .before .before .before .before .args .register .now)) (wordsOf (c .before .before .before .before .before .args .objs .now))
 front c = let s = c .before .before .before .before .before in
-    kinds-front (wordsOf (s .args .register .now)) (wordsOf (s .args .objs .now)) (s .args .kinds .now) _ (s .pre .1 .1 .2) (s .pre .1 .1 .0) (stored c)
+    kinds-front (wordsOf (s .args .register .now)) (wordsOf (s .args .objs .now)) (replicate 8 0) _ refl (s .pre .1 .1 .0) (stored c)
 
 -- neither 25 nor 26 applies: 27 decides
 last : (c : tie.After-two-of-kind) → pick {A = ℕ} (c .two-of-kind .result) 27 0 ≡ first (objectTests (netIn (c .before .before .before .before .before .before .before .args .t .now)) (wordsOf (c .before .before .before .before .before .before .before .args .register .now)) (c .before .before .before .before .before .before .before .args .act) (wordsOf (c .before .before .before .before .before .before .before .args .objs .now)))
@@ -43,7 +43,7 @@ take-kinds-requires c κs = search needs
 
 returns : tie.Need-returns
 returns c = let a = c .before .before .before .before .before .args in
-    (c .before .take-kinds .ensures .0 ∙ sym (first-stays (take 2 (objectTests (netIn (a .t .now)) (wordsOf (a .register .now)) (a .act) (wordsOf (a .objs .now)))) ((twice (kindsOf (wordsOf (a .register .now)) (wordsOf (a .objs .now))), 27) ∷ []) (λ z. c .if1 .taken (c .before .take-kinds .ensures .0 ∙ z))), λ z. absurd (c .if1 .taken z))
+    c .before .take-kinds .ensures .0 ∙ sym (first-stays (take 2 (objectTests (netIn (a .t .now)) (wordsOf (a .register .now)) (a .act) (wordsOf (a .objs .now)))) ((twice (kindsOf (wordsOf (a .register .now)) (wordsOf (a .objs .now))), 27) ∷ []) (λ z. c .if1 .taken (c .before .take-kinds .ensures .0 ∙ z)))
 
 two-of-kind-requires : tie.Need-two-of-kind-requires
 two-of-kind-requires c κs = let s = c .before .before .before .before .before .before in
@@ -51,10 +51,10 @@ two-of-kind-requires c κs = let s = c .before .before .before .before .before .
     (omega (arith, e, s .pre .1 .1 .0), omega (arith, e, size (c .before), s .pre .1 .1 .0))
 
 returns-2 : tie.Need-returns-2
-returns-2 c = (rw (c .if2 .taken) at (last (c .before)), λ z. absurd (omega arith))
+returns-2 c = rw (c .if2 .taken) at (last (c .before))
 
 returns-3 : tie.Need-returns-3
-returns-3 c = (rw (c .if2 .left) at (last (c .before)), λ z. front (c .before .before .before))
+returns-3 c = rw (c .if2 .left) at (last (c .before))
 
 pub refuse-objects-spec : {M : Type 1} → statement M
 refuse-objects-spec =
