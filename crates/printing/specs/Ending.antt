@@ -1,0 +1,24 @@
+-- What is to be printed: the text, the number and the events of each case, and what printing asks of the lent bytes.
+use Prim.Native.Nat.{ℕ, _≤_}
+use mathlib.Core.List.{List}
+use lib.ListN.{length, take}
+use Rattle.replay.specs.Ready.{Ready}
+use Rattle.lines.specs.Lines.{refusedLine}
+use Rattle.report.specs.Report.{reportAt}
+use Rattle.printing.specs.declared.Ending.{Ending}
+use Rattle.printing.specs.declared.Ending.the-variants.{Report, Refused}
+
+-- the text, where b are the bytes lent for the trail: the report of the trail in the first n of them, or the line of a refusal
+abbrev pub endingText : Ending → List ℕ → List ℕ
+endingText (Report n) b = reportAt (take n b)
+endingText (Refused code events) b = refusedLine code events
+
+-- the paper's number, 0 for a report
+abbrev pub endingCode : Ending → ℕ
+endingCode (Report n) = 0
+endingCode (Refused code events) = code
+
+-- a trail that is to be reported stands in the lent bytes b, and the words w hold its net
+abbrev pub Printable : List ℕ → List ℕ → Ending → Type 0
+Printable w b (Report n) = (n ≤ length b) × Ready w (take n b)
+Printable w b (Refused code events) = Unit
