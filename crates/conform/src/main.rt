@@ -188,9 +188,12 @@ fn decide(table: &[u8], t: &mut [u32; 1684], rec: &mut [u8]) -> Ending
     ensures text { λ r. ⌜ FromFile (now (table .entry)) [] 0 r (now (rec .exit)) ⌝ }
     ensures printable { λ r. ⌜ Printable (now (t .exit)) (now (rec .exit)) r ⌝ }
 {
-    let code = net::number(loader::load(table, t));
-    if code != 0 {
-        return Ending::Refused { code, events: 0 };
+    let number = net::number(loader::load(table, t));
+    if number != 0 {
+        return Ending::Refused {
+            code: number,
+            events: 0,
+        };
     }
     read_trail(table, t, rec)
 }
