@@ -1,4 +1,4 @@
--- What is to be printed: the text, the number and the events of each case, and what printing asks of the lent bytes.
+-- What is to be printed: the text of each case, by its number and values, and what printing asks of the lent bytes.
 use Prim.Native.Nat.{ℕ, _≤_}
 use mathlib.Core.List.{List}
 use lib.ListN.{length, take}
@@ -12,11 +12,6 @@ use Rattle.printing.specs.declared.Ending.the-variants.{Report, Refused}
 abbrev pub endingText : Ending → List ℕ → List ℕ
 endingText (Report n) b = reportAt (take n b)
 endingText (Refused code events) b = refusedLine code events
-
--- the paper's number, 0 for a report
-abbrev pub endingCode : Ending → ℕ
-endingCode (Report n) = 0
-endingCode (Refused code events) = code
 
 -- a trail that is to be reported stands in the lent bytes b, and the words w hold its net
 abbrev pub Printable : List ℕ → List ℕ → Ending → Type 0

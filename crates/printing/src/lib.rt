@@ -12,11 +12,11 @@ ghost use Rattle.replay.specs.Ready.{Ready};
 ghost use Rattle.lines.specs.Lines.{refusedLine};
 ghost use Rattle.printing.specs.Ending.{Printable};
 
-// What is to be printed. `endingText` gives the text of each case, `endingCode` document 01's number.
+// What is to be printed. `endingText` gives the text of each case.
 pub enum Ending {
     // The report of the trail that stands in the first so many of the bytes lent for it.
     Report(usize),
-    // The line of a refusal, with the events accepted before it.
+    // The line of a refusal: document 01's number, and the events accepted before it.
     Refused { code: u32, events: u32 },
 }
 
