@@ -9,8 +9,7 @@ ghost use Prim.Native.Nat.{_≤_};
 ghost use lib.ListN.{length, take};
 ghost use Rattle.io.specs.Counts.{Counts};
 ghost use Rattle.replay.specs.Ready.{Ready};
-ghost use Rattle.lines.specs.Lines.{refusedLine};
-ghost use Rattle.printing.specs.Ending.{Printable};
+ghost use Rattle.printing.specs.Ending.{refusalText, Printable};
 
 // What is to be printed. `endingText` gives the text of each case.
 pub enum Ending {
@@ -20,19 +19,22 @@ pub enum Ending {
     Refused { code: u32, events: u32 },
 }
 
-// The line of a refusal in front of the lent bytes, and how many bytes it has.
-fn refusal_line(code: u32, events: u32, out: &mut [u8]) -> usize
+// The line of a refusal in front of the lent bytes, and how many bytes it has; nothing for a report.
+fn refusal_line(ending: Ending, out: &mut [u8]) -> usize
     requires { ⌜ 64 ≤ length (now out) ⌝ }
     ensures size { λ r. ⌜ Counts r (now (out .exit)) ⌝ }
-    ensures line { λ r. ⌜ take r (now (out .exit)) ≡ refusedLine code events ⌝ }
+    ensures line { λ r. ⌜ take r (now (out .exit)) ≡ refusalText ending ⌝ }
 {
-    size(lines::refused_line(code, events, out))
+    match ending {
+        Ending::Report(_) => 0,
+        Ending::Refused { code, events } => size(lines::refused_line(code, events, out)),
+    }
 }
 
 // Prints the line of a refusal. Gives whether all of it was written.
-fn print_refusal(code: u32, events: u32) -> bool {
+fn print_refusal(ending: Ending) -> bool {
     let mut out = [0u8; 64];
-    let n = refusal_line(code, events, &mut out);
+    let n = refusal_line(ending, &mut out);
     io::write_all(1, &out[..n])
 }
 
@@ -61,6 +63,6 @@ pub fn print(ending: Ending, rec: &[u8], t: &[u32; 1684]) -> bool
 {
     match ending {
         Ending::Report(n) => print_report(&rec[..n], t),
-        Ending::Refused { code, events } => print_refusal(code, events),
+        Ending::Refused { code: _, events: _ } => print_refusal(ending),
     }
 }

@@ -21,8 +21,8 @@ slice-aggregate-print-report c = simp length-take (omega (arith, asked c .0))
 print-report-requires : tie.Need-print-report-requires
 print-report-requires c κs = asked c .1
 
-enum-known-ending-2 : tie.Need-enum-known-ending-2
-enum-known-ending-2 c = search needs
+enum-told : tie.Need-enum-told
+enum-told c = search needs
 
 print-refusal-requires : tie.Need-print-refusal-requires
 print-refusal-requires c κs = search needs
@@ -40,7 +40,7 @@ print-spec =
     enum-known-ending
     slice-aggregate-print-report
     print-report-requires
-    enum-known-ending-2
+    enum-told
     print-refusal-requires
     returns
     returns-2)
