@@ -1,6 +1,6 @@
 -- The record of the started trail is in front of the lent bytes, and the trail is followed from there. Assumes nothing.
 use Prim.Native.Nat.{_≤_}
-use mathlib.Core.Path.{_≡_, sym, ap, _∙_}
+use mathlib.Core.Path.{_≡_, sym, _∙_}
 use native.Mathlib.Omega.{arith}
 use lib.ListN.{length, take, drop, length-take}
 use Rattle.words.specs.Words.{wordsOf}

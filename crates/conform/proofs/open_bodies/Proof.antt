@@ -1,6 +1,5 @@
 -- A register that is too long is refused, however much of it is there. Assumes nothing.
-use Prim.Native.Nat.{ℕ}
-use mathlib.Core.Path.{_≡_, ap, sym, subst, _∙_}
+use mathlib.Core.Path.{ap, sym, subst, _∙_}
 use mathlib.Core.List.{[]}
 use native.Mathlib.Omega.{arith}
 use Rattle.net.specs.Net.{Net}

@@ -1,5 +1,4 @@
 -- A register that is not refused is wholly there and starts a trail. Assumes nothing.
-use Prim.Native.Nat.{ℕ}
 use mathlib.Core.Path.{_≡_, refl, ap, sym, _∙_}
 use lib.ListN.{length}
 use Rattle.words.specs.Words.{wordsOf}

@@ -1,5 +1,5 @@
 -- Each arm by what the contents say. Assumes nothing.
-use mathlib.Core.Path.{_≡_, sym, _∙_}
+use mathlib.Core.Path.{sym, _∙_}
 use Rattle.conform.proofs.Opening.{whole-rows}
 use Rattle.conform.proofs.Texts.{contents-refused, contents-taken}
 use borrow.Author.Needs.{needs}

@@ -1,5 +1,5 @@
 -- The trail is closed where no event was refused, and it is one to which calls can be put, also after the close. Assumes nothing.
-use mathlib.Core.Path.{refl, sym, subst}
+use mathlib.Core.Path.{sym, subst}
 use native.Mathlib.Omega.{arith}
 use lib.ListN.{length, take}
 use Rattle.words.specs.Words.{wordsOf}
