@@ -450,6 +450,72 @@ fn huge_inputs(c: &mut Check) {
     }
 }
 
+/// Words of the shell, with the program as `$0`: what comes on standard output and as errors.
+fn in_shell(c: &Check, case: &str, words: &str, trace: &[u8]) -> (Vec<u8>, String) {
+    let trace_path = c.folder.join("trail");
+    fs::write(&trace_path, trace).unwrap();
+    let output = Command::new("sh")
+        .args(["-c", words])
+        .arg(&c.binary)
+        .current_dir(&c.folder)
+        .stdin(Stdio::from(File::open(&trace_path).unwrap()))
+        .output()
+        .unwrap_or_else(|error| c.fail(case, &format!("no shell: {error}")));
+    if !output.status.success() {
+        c.fail(case, &format!("ended with {}", output.status));
+    }
+    (output.stdout, String::from_utf8_lossy(&output.stderr).into_owned())
+}
+
+const UNWRITTEN: &str = "conform: standard output cannot be written\n";
+
+/// Where the output cannot be written, the program says so in one line and stops.
+fn failing_outputs(c: &mut Check) {
+    c.set_table(&table_m());
+    for (what, trace) in [("a report", events_m(&T4)), ("a refusal", vec![])] {
+        for (how, words) in [
+            ("a full device", "exec \"$0\" >/dev/full"),
+            ("a closed output", "exec \"$0\" >&-"),
+            ("a closed output, and a closed input", "exec \"$0\" <&- >&-"),
+            ("an output that is read-only", "exec \"$0\" 1</dev/null"),
+        ] {
+            let case = format!("{what} to {how}");
+            let (out, errors) = in_shell(c, &case, words, &trace);
+            if !out.is_empty() || errors != UNWRITTEN {
+                c.fail(&case, &format!("it wrote {} bytes, and as errors: {errors}", out.len()));
+            }
+            c.cases += 1;
+        }
+    }
+    // a report that takes more than one part, to a file that may have 4,096 or 8,192 bytes, as the shell counts
+    let case = "a report to a file with too little room";
+    // activity 0 goes from the source to the sink, and each other one stays on a place of its own: an object jumps between them
+    let arcs: Vec<u32> = [0, 1].into_iter().chain((2..32).flat_map(|q| [q, q])).collect();
+    let table = file_of(&[bytes_of(&[0, 1]), bytes_of(&[0; 32]), bytes_of(&[1; 31]), bytes_of(&arcs)]);
+    let hops: Vec<Event> = (1..31).flat_map(|a| (1..31).flat_map(move |b| [(a, vec![0]), (b, vec![0])])).collect();
+    let trace = trace_file(&[0], &hops);
+    let whole = oracle::program(&table, &trace);
+    c.set_table(&table);
+    let (out, errors) = in_shell(c, case, "trap '' XFSZ; ulimit -f 8; \"$0\" >sheet; cat sheet", &trace);
+    if errors != UNWRITTEN || out.is_empty() || out.len() >= whole.len() || !whole.as_bytes().starts_with(&out) {
+        c.fail(case, &format!("{} of {} bytes, and as errors: {errors}", out.len(), whole.len()));
+    }
+    c.cases += 1;
+}
+
+/// With any argument the program says in two lines how it is used, and neither reads nor writes anything else.
+fn arguments(c: &mut Check) {
+    c.set_table(&table_m());
+    let trace = events_m(&T4);
+    for words in ["\"$0\" trail; cat", "\"$0\" ''; cat", "\"$0\" --help x y; cat"] {
+        let (out, errors) = in_shell(c, words, words, &trace);
+        if out != trace || errors.lines().count() != 2 || !errors.ends_with('\n') || !errors.starts_with("usage: conform") {
+            c.fail(words, &format!("{} of {} bytes are left to read, and as errors: {errors}", out.len(), trace.len()));
+        }
+        c.cases += 1;
+    }
+}
+
 /// Every answer that the program can give, to be met at least once in a run of the usual length.
 fn expected_answers() -> Vec<String> {
     let codes = (1..=9).chain([11, 12]).chain(22..=27).chain([71, 73]);
@@ -488,6 +554,8 @@ fn main() {
     refused_tables(&mut c);
     refused_traces(&mut c);
     unreadable(&mut c);
+    failing_outputs(&mut c);
+    arguments(&mut c);
     long_inputs(&mut c, &mut Rng::new(seed));
     if rounds > DEFAULT_ROUNDS {
         huge_inputs(&mut c);

@@ -1,5 +1,5 @@
 #!/usr/bin/env bash
-# The program against the oracle: examples, refusals, random, damaged and long inputs.   conform.sh [ROUNDS] [SEED]
+# The program against the oracle: examples, refusals, random, damaged and long inputs, outputs that fail.   conform.sh [ROUNDS] [SEED]
 set -eu
 cd "$(dirname "$0")/.."
 work=$(mktemp -d)

@@ -1,3 +1,4 @@
 pub mod Opening
+pub mod Texts
 pub mod RowsHold
 pub mod Printed

@@ -12,9 +12,10 @@ use Rattle.net.specs.Table.{netOf}
 use Rattle.net.specs.Held.{netIn, Tabled}
 use Rattle.replay.specs.Plain.{registerCode}
 use Rattle.replay.specs.State.{State}
-use Rattle.replay.specs.Calls.{startRecord, startCode, startBytes}
+use Rattle.replay.specs.Calls.{startRecord, startBytes}
 use Rattle.starting.specs.Startable.{Startable}
-use Rattle.starting.proofs.Begun.{ready-start, state-start, start-front}
+use Rattle.starting.proofs.Begun.{ready-start, state-start, start-front, start-fits}
+use Rattle.starting.proofs.StartLaws.{taken}
 use Rattle.opening.specs.declared.Contents.the-variants.{Bodies}
 use Rattle.opening.specs.Opening.{contentsTests, contentsOf, openCode}
 use Rattle.opening.proofs.OpenLaws.{contents-bodies, not-refused}
@@ -47,6 +48,12 @@ module _ (t table register : List ℕ) (S : Startable t table register) (ok : re
         events = ap (λ (d : State). d .events) e;
       }
 
-  pub started-follows : (lent b : List ℕ) (n : ℕ) → startCode table (wordsOf register) (length lent) ≡ 0 → b ≡ startBytes table (wordsOf register) lent → n ≡ length (startRecord table (wordsOf register))
-      → Follows t (take n b) register 0
-  started-follows lent b n z e m = rw (m, e) (subst (λ (x : List ℕ). Follows t x register 0) (sym (start-front table (wordsOf register) lent z)) begun)
+  -- starting cannot be refused, and leaves the record in front of the lent bytes
+  pub started : (lent b : List ℕ) (n : ℕ) → 29844 ≤ length lent → b ≡ startBytes table (wordsOf register) lent → n ≡ length (startRecord table (wordsOf register))
+      → take n b ≡ startRecord table (wordsOf register)
+  started lent b n h e m =
+      let z = taken table register lent ok (omega (arith, start-fits t table register S ok)) .0 in
+      rw (m, e) (start-front table (wordsOf register) lent (sym z))
+
+  pub started-follows : (b : List ℕ) → b ≡ startRecord table (wordsOf register) → Follows t b register 0
+  started-follows b e = subst (λ (x : List ℕ). Follows t x register 0) (sym e) begun

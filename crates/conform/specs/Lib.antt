@@ -1,2 +1,3 @@
 pub mod Program
+pub mod FromFile
 pub mod Rows

@@ -1,5 +1,6 @@
--- What the program prints (document 01 "Trail file, program, sheet"), by the bytes of the table file and of the trail file. No
--- contract can name what is read and written, so that the program is tested against it; its parts are proved.
+-- What the program prints (document 01 "Trail file, program, sheet"), by the bytes of the table file and of the trail file. What the
+-- program's functions give back has this text, for a trail file of which the bytes that they were handed are the front
+-- (`FromFile`). That standard input is that file, and that the text is what is written, no contract can say: it is tested.
 use Prim.Native.Nat.{ℕ, _+_}
 use mathlib.Core.Path.{_≡_}
 use mathlib.Core.List.{List, [], _∷_, _++_, map}

@@ -1,24 +1,33 @@
 // The program: it reads the route table `route.tab` and a trail from standard input, and writes the report (the sheet), or the first
-// refusal, to standard output. `specs/Program.antt` says which. That it is safe and ends on every input, and what its parts do, is
-// proved; that it prints that text is tested.
+// refusal, to standard output. `specs/Program.antt` says which.
+// Reading and deciding are apart: functions that read (`read_..`, `main`) hand the bytes to functions that decide, and these give
+// back what is to be printed. Proved of what is given back: it has the text for the table file's bytes and a trail file of which the
+// bytes handed in are the front (`specs/FromFile.antt`). That standard input is that file, and that what is given back is what is
+// written, no contract can say, and is tested.
 
 use following::follow;
+use input::has_arguments;
 use input::read_file;
 use input::read_some;
 use input::skip;
 use opening::Contents;
 use opening::opening_refusal;
 use opening::read_contents;
-use printing::refuse;
-use starting::StartAnswer;
+use printing::Ending;
+use printing::print;
 ghost use mathlib.Core.Path.{_≡_};
-ghost use Prim.Native.Nat.{_%_, _<_};
-ghost use lib.ListN.{length};
-ghost use Rattle.net.specs.Held.{Held, Tabled};
+ghost use mathlib.Core.List.{[]};
+ghost use Prim.Native.Nat.{_%_, _<_, _≤_};
+ghost use lib.ListN.{length, take};
+ghost use Rattle.net.specs.Held.{netIn, Held, Tabled};
 ghost use Rattle.words.specs.Words.{wordsOf};
 ghost use Rattle.net.specs.Table.{netOf};
 ghost use Rattle.replay.specs.Plain.{registerCode};
 ghost use Rattle.starting.specs.Startable.{Startable};
+ghost use Rattle.opening.specs.Opening.{openCode};
+ghost use Rattle.printing.specs.declared.Ending.the-variants.{Refused};
+ghost use Rattle.printing.specs.Ending.{Printable};
+ghost use Rattle.conform.specs.FromFile.{FromFile, BehindContents, BehindRegister};
 
 // Room for the longest record.
 fn record_buffer() -> [u8; 29844]
@@ -34,81 +43,180 @@ fn net_buffer() -> [u32; 1684]
     [0; 1684]
 }
 
-// A register that is not refused: the trail is started, and its events follow on standard input.
-fn begin(table: &[u8], t: &[u32; 1684], register: &[u8], body: usize)
+// A register that is not refused: the trail is started, which nothing can refuse here, and its events are followed. The first n
+// bytes of the buffer are those that were read first behind the register.
+fn begin(
+    table: &[u8],
+    t: &[u32; 1684],
+    register: &[u8],
+    body: usize,
+    rec: &mut [u8],
+    buf: &mut [u8],
+    n: usize,
+) -> Ending
     requires { ⌜ Startable (now t) (now table) (now register) ⌝ }
     requires { ⌜ registerCode (netOf (now table)) (wordsOf (now register)) ≡ 0 ⌝ }
+    requires { ⌜ 29844 ≤ length (now rec) ⌝ }
+    requires { ⌜ (40 ≤ length (now buf)) × (n ≤ length (now buf)) ⌝ }
+    ensures text { λ r. ⌜ BehindRegister (now (table .entry)) (now (register .entry)) body (take n (now (buf .entry))) (length (now (buf .entry))) r (now (rec .exit)) ⌝ }
+    ensures printable { λ r. ⌜ Printable (now (t .entry)) (now (rec .exit)) r ⌝ }
 {
-    let mut rec = record_buffer();
-    match starting::start(t, table, register, &mut rec) {
-        StartAnswer::Taken => {
-            let n = starting::record_bytes(t, table.len(), register.len());
-            follow(&mut rec[..n], t, register, body);
-        }
-        _ => {}
-    }
+    starting::start(t, table, register, rec);
+    let size = starting::record_bytes(t, table.len(), register.len());
+    follow(&mut rec[..size], t, register, body, buf, n)
 }
 
-// A register of more than 4,096 bytes is counted and not held.
-fn pass_register(t: &[u32; 1684], claimed: usize)
-    requires { ⌜ Held (now t) ⌝ }
-    requires { ⌜ 4096 < claimed ⌝ }
+// Reads the first part of the events.
+fn read_events(
+    table: &[u8],
+    t: &[u32; 1684],
+    register: &[u8],
+    body: usize,
+    rec: &mut [u8],
+) -> Ending
+    requires { ⌜ Startable (now t) (now table) (now register) ⌝ }
+    requires { ⌜ registerCode (netOf (now table)) (wordsOf (now register)) ≡ 0 ⌝ }
+    requires { ⌜ 29844 ≤ length (now rec) ⌝ }
+    ensures text { λ r. ⌜ BehindRegister (now (table .entry)) (now (register .entry)) body [] 0 r (now (rec .exit)) ⌝ }
+    ensures printable { λ r. ⌜ Printable (now (t .entry)) (now (rec .exit)) r ⌝ }
 {
-    let there = skip(claimed);
-    refuse(opening_refusal(claimed, there, b"", t), 0);
+    let mut buf = io::large_buffer();
+    let n = io::read_full(0, &mut buf);
+    begin(table, t, register, body, rec, &mut buf, n)
 }
 
-fn read_register(table: &[u8], t: &[u32; 1684], claimed: usize, body: usize)
+// A register that claims so many bytes, of which those given are there.
+fn open_register(
+    table: &[u8],
+    t: &[u32; 1684],
+    claimed: usize,
+    body: usize,
+    register: &[u8],
+    rec: &mut [u8],
+) -> Ending
     requires { ⌜ Tabled (now t) (now table) ⌝ }
     requires { ⌜ claimed % 4 ≡ 0 ⌝ }
+    requires { ⌜ length (now register) ≤ claimed ⌝ }
+    requires { ⌜ 29844 ≤ length (now rec) ⌝ }
+    ensures text { λ r. ⌜ BehindContents (now (table .entry)) claimed body (now (register .entry)) claimed r (now (rec .exit)) ⌝ }
+    ensures printable { λ r. ⌜ Printable (now (t .entry)) (now (rec .exit)) r ⌝ }
+{
+    let code = opening_refusal(claimed, register.len(), register, t);
+    if code != 0 {
+        return Ending::Refused { code, events: 0 };
+    }
+    read_events(table, t, register, body, rec)
+}
+
+// Reads a register that can be held whole.
+fn read_register(
+    table: &[u8],
+    t: &[u32; 1684],
+    claimed: usize,
+    body: usize,
+    rec: &mut [u8],
+) -> Ending
+    requires { ⌜ Tabled (now t) (now table) ⌝ }
+    requires { ⌜ (claimed % 4 ≡ 0) × (claimed ≤ 4096) ⌝ }
+    requires { ⌜ 29844 ≤ length (now rec) ⌝ }
+    ensures text { λ r. ⌜ BehindContents (now (table .entry)) claimed body [] 0 r (now (rec .exit)) ⌝ }
+    ensures printable { λ r. ⌜ Printable (now (t .entry)) (now (rec .exit)) r ⌝ }
 {
     let mut register = io::buffer();
     let there = read_some(&mut register, claimed);
-    let code = opening_refusal(claimed, there, &register[..there], t);
-    if code != 0 {
-        refuse(code, 0);
-        return;
-    }
-    begin(table, t, &register[..there], body);
+    open_register(table, t, claimed, body, &register[..there], rec)
 }
 
-// A trail file whose contents are not broken.
-fn open_trail(table: &[u8], t: &[u32; 1684], claimed: usize, body: usize)
+// A register of more than 4,096 bytes is counted and not held.
+fn pass_register(t: &[u32; 1684], claimed: usize, there: usize) -> Ending
+    requires { ⌜ Held (now t) ⌝ }
+    ensures { λ r. ⌜ r ≡ Refused (openCode (netIn (now (t .entry))) claimed there []) 0 ⌝ }
+{
+    Ending::Refused {
+        code: opening_refusal(claimed, there, b"", t),
+        events: 0,
+    }
+}
+
+// A trail file whose contents claim bodies of so many bytes.
+fn open_bodies(table: &[u8], t: &[u32; 1684], claimed: usize, body: usize, rec: &mut [u8]) -> Ending
     requires { ⌜ Tabled (now t) (now table) ⌝ }
     requires { ⌜ claimed % 4 ≡ 0 ⌝ }
+    requires { ⌜ 29844 ≤ length (now rec) ⌝ }
+    ensures text { λ r. ⌜ BehindContents (now (table .entry)) claimed body [] 0 r (now (rec .exit)) ⌝ }
+    ensures printable { λ r. ⌜ Printable (now (t .entry)) (now (rec .exit)) r ⌝ }
 {
     if 4096 < claimed {
-        pass_register(t, claimed);
-        return;
+        return pass_register(t, claimed, skip(claimed));
     }
-    read_register(table, t, claimed, body);
+    read_register(table, t, claimed, body, rec)
 }
 
-// The trail on standard input, for a table that is loaded.
-fn read_trail(table: &[u8], t: &[u32; 1684])
+// A trail file, by its first bytes, for a table that is loaded.
+fn open_trail(table: &[u8], t: &[u32; 1684], head: &[u8], rec: &mut [u8]) -> Ending
     requires { ⌜ Tabled (now t) (now table) ⌝ }
+    requires { ⌜ length (now head) ≤ 16 ⌝ }
+    requires { ⌜ 29844 ≤ length (now rec) ⌝ }
+    ensures text { λ r. ⌜ FromFile (now (table .entry)) (now (head .entry)) 16 r (now (rec .exit)) ⌝ }
+    ensures printable { λ r. ⌜ Printable (now (t .entry)) (now (rec .exit)) r ⌝ }
+{
+    match read_contents(head) {
+        Contents::Broken => Ending::Refused {
+            code: 71,
+            events: 0,
+        },
+        Contents::Bodies { register, events } => open_bodies(table, t, register, events, rec),
+    }
+}
+
+// Reads the first bytes of the trail file.
+fn read_trail(table: &[u8], t: &[u32; 1684], rec: &mut [u8]) -> Ending
+    requires { ⌜ Tabled (now t) (now table) ⌝ }
+    requires { ⌜ 29844 ≤ length (now rec) ⌝ }
+    ensures text { λ r. ⌜ FromFile (now (table .entry)) [] 0 r (now (rec .exit)) ⌝ }
+    ensures printable { λ r. ⌜ Printable (now (t .entry)) (now (rec .exit)) r ⌝ }
 {
     let mut head = [0u8; 16];
     let n = io::read_full(0, &mut head);
-    match read_contents(&head[..n]) {
-        Contents::Broken => refuse(71, 0),
-        Contents::Bodies { register, events } => open_trail(table, t, register, events),
-    }
+    open_trail(table, t, &head[..n], rec)
 }
 
-// The table file's bytes: a table of more than 4,704 bytes is refused by one byte more.
-fn run(table: &[u8]) {
-    let mut t = net_buffer();
-    let code = net::number(loader::load(table, &mut t));
-    if code != 0 {
-        refuse(code, 0);
-        return;
+// What is to be printed, by the table file's bytes and what is read from standard input. The trail is left in the lent bytes.
+fn decide(table: &[u8], t: &mut [u32; 1684], rec: &mut [u8]) -> Ending
+    requires { ⌜ 1684 ≡ length (now t) ⌝ }
+    requires { ⌜ 29844 ≤ length (now rec) ⌝ }
+    ensures text { λ r. ⌜ FromFile (now (table .entry)) [] 0 r (now (rec .exit)) ⌝ }
+    ensures printable { λ r. ⌜ Printable (now (t .exit)) (now (rec .exit)) r ⌝ }
+{
+    let number = net::number(loader::load(table, t));
+    if number != 0 {
+        return Ending::Refused {
+            code: number,
+            events: 0,
+        };
     }
-    read_trail(table, &t);
+    read_trail(table, t, rec)
+}
+
+// Reads the table file, of which one byte more than a table may have is enough to refuse it, and prints what is to be printed.
+fn run() {
+    let mut table = [0u8; 4705];
+    let mut t = net_buffer();
+    let mut rec = record_buffer();
+    let n = read_file(b"route.tab", &mut table);
+    let ending = decide(&table[..n], &mut t, &mut rec);
+    if !print(ending, &rec, &t) {
+        io::write_all(2, b"conform: standard output cannot be written\n");
+    }
 }
 
 fn main() {
-    let mut table = [0u8; 4705];
-    let n = read_file(b"route.tab", &mut table);
-    run(&table[..n]);
+    if has_arguments() {
+        io::write_all(
+            2,
+            b"usage: conform < TRAIL\nIt takes no arguments: the route table is the file route.tab, the trail is standard input.\n",
+        );
+        return;
+    }
+    run();
 }

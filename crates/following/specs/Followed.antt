@@ -3,6 +3,7 @@
 use Prim.Native.Nat.{ℕ, zero, suc, _+_, _-_, _*_}
 use mathlib.Core.Bool.{true, false}
 use mathlib.Core.List.{List, [], _∷_}
+use lib.ListN.{length}
 use lib.Dec.{eqb}
 use Rattle.words.specs.Lists.{pick}
 use Rattle.net.specs.Net.{Net}
@@ -13,6 +14,8 @@ use Rattle.tracefile.specs.Trace.{readFrom}
 use Rattle.tracefile.specs.declared.Answer.{Answer}
 use Rattle.tracefile.specs.declared.Found.{Found}
 use Rattle.tracefile.specs.declared.Found.the-variants as found
+use Rattle.printing.specs.declared.Ending.{Ending}
+use Rattle.printing.specs.declared.Ending.the-variants.{Report, Refused}
 use Rattle.following.specs.declared.Spot.{Spot}
 use Rattle.following.specs.declared.Outcome.{Outcome}
 
@@ -25,6 +28,10 @@ pub record Followed : Type 0 where
 -- what is left of the trail then: it is closed where no event was refused
 unfoldable pub closedAfter : Followed → List ℕ
 closedAfter d = pick (eqb (d .code) 0) (askBytes (d .trail) close) (d .trail)
+
+-- what is to be printed then: the report of that trail, or the refusal with the events accepted before it
+unfoldable pub endingAfter : Followed → Ending
+endingAfter d = pick (eqb (d .code) 0) (Report (length (closedAfter d))) (Refused (d .code) (d .accepted))
 
 -- by what is found: an event, of which more is computed only then; or the end (0) or a refusal with its number
 abbrev pub byFound {ℓ} : {A : Type ℓ} → Found → (Unit {0} → A) → (ℕ → A) → A

@@ -24,10 +24,16 @@ pub record Filled (buf : List ℕ) (n : ℕ) (f : List ℕ) (i : ℕ) : Type 0 w
 pub record Kept (N : Net) (ks : List ℕ) (body : ℕ) (PartOf : List ℕ → ℕ → Type 0) (trail : List ℕ) (s : Spot) (left : List ℕ) (r : Outcome) : Type 0 where
   pub same : (f : List ℕ) (i : ℕ) → PartOf f i → final N ks f body trail (i + s .from) (s .at) (s .accepted) ≡ goesOn N ks f body i left r
 
--- What comes of all events of some file, which begins with the body, is as P says. Which file, no contract can say: it is the
--- bytes that were read.
-pub record OfSomeFile (N : Net) (ks : List ℕ) (body : ℕ) (trail : List ℕ) (P : Followed → Type 0) : Type 0 where
+-- The bytes that were read first, into room for so many, are the front of f, and all of it where they do not fill the room.
+pub record Begins (front : List ℕ) (room : ℕ) (f : List ℕ) : Type 0 where
+  pub part : take (length front) f ≡ front
+  pub last : length front < room → f ≡ front
+
+-- What comes of all events of some file is as P says. The file begins with the body, and the bytes that were read first are its
+-- front. What follows them no contract can say: it is what is read later.
+pub record OfSomeFile (N : Net) (ks : List ℕ) (body : ℕ) (trail front : List ℕ) (room : ℕ) (P : Followed → Type 0) : Type 0 where
   pub file : List ℕ
+  pub begins : Begins front room file
   pub came : P (final N ks file body trail 0 0 0)
 
 -- Unless it is over, fewer than `least` of the `size` bytes are left, and where there were as many at the spot s an event was accepted.

@@ -1,19 +1,20 @@
-// The events of a trail from standard input, read through a window and carried out one by one; then the close and the report.
+// The events of a trail, carried out one by one in a window of its file that is filled up from standard input; then the close.
+// What is given back is what is to be printed: `conform` prints it.
 // Above `tracefile`, `events`, `closing`, `printing` and `input`; `conform` uses it once a trail is started.
 
 use input::refill;
-use printing::print;
-use printing::refuse;
+use printing::Ending;
 use tracefile::Cursor;
 use tracefile::Found;
 use words::wide;
 ghost use mathlib.Core.Path.{_≡_};
 ghost use Prim.Native.Nat.{_≤_};
-ghost use lib.ListN.{length};
+ghost use lib.ListN.{length, take};
 ghost use Rattle.words.specs.Words.{wordsOf};
 ghost use Rattle.net.specs.Held.{netIn};
+ghost use Rattle.replay.specs.Ready.{Ready};
 ghost use Rattle.following.specs.Follows.{Follows};
-ghost use Rattle.following.specs.Followed.{Followed, closedAfter, stops, leftBy, stepTrail, stepOutcome};
+ghost use Rattle.following.specs.Followed.{Followed, closedAfter, endingAfter, stops, leftBy, stepTrail, stepOutcome};
 ghost use Rattle.following.specs.Window.{Window, Filled, Kept, OfSomeFile, Through, Turned};
 
 // Where the reading stands: byte `from` of the window is byte `at` of the events body, and `accepted` events are accepted.
@@ -139,45 +140,66 @@ fn turn(
     steps(rec, t, register, body, buf, 40, start)
 }
 
-// All events, turn by turn: each but the last carries out one event or more.
-fn all_events(rec: &mut [u8], t: &[u32; 1684], register: &[u8], body: usize) -> Outcome
+// All events, turn by turn: each but the last carries out one event or more. The first n bytes of the buffer are those that
+// were read first; the others are read as they are needed.
+fn all_events(
+    rec: &mut [u8],
+    t: &[u32; 1684],
+    register: &[u8],
+    body: usize,
+    buf: &mut [u8],
+    n: usize,
+) -> Outcome
     requires { ⌜ Follows (now t) (now rec) (now register) 0 ⌝ }
-    ensures all { λ r. ⌜ OfSomeFile (netIn (now (t .entry))) (wordsOf (now (register .entry))) body (now (rec .entry)) (_≡_ (leftBy (now (rec .exit)) r)) ⌝ }
+    requires { ⌜ (40 ≤ length (now buf)) × (n ≤ length (now buf)) ⌝ }
+    ensures all { λ r. ⌜ OfSomeFile (netIn (now (t .entry))) (wordsOf (now (register .entry))) body (now (rec .entry)) (take n (now (buf .entry))) (length (now (buf .entry))) (_≡_ (leftBy (now (rec .exit)) r)) ⌝ }
     ensures follows { λ r. ⌜ Follows (now (t .entry)) (now (rec .exit)) (now (register .entry)) (r .spot .accepted) ⌝ }
 {
-    let mut buf = io::large_buffer();
-    let mut spot = Spot {
-        from: 65536,
+    let mut there = n;
+    let mut start = Spot {
+        from: 0,
         at: 0,
         accepted: 0,
     };
     loop {
-        let n = refill(&mut buf, spot.from);
-        let start = Spot {
+        let s = turn(rec, t, register, body, buf, there, start);
+        if s.over {
+            return s;
+        }
+        let spot = s.spot;
+        there = refill(buf, spot.from);
+        start = Spot {
             from: 0,
             at: spot.at,
             accepted: spot.accepted,
         };
-        let s = turn(rec, t, register, body, &buf, n, start);
-        if s.over {
-            return s;
-        }
-        spot = s.spot;
     }
 }
 
-// Follows a trail that is started to its end: it is closed and reported, or the first refusal is.
-pub fn follow(rec: &mut [u8], t: &[u32; 1684], register: &[u8], body: usize)
+// Follows a trail that is started to its end: it is closed and is to be reported, or the first refusal is. The first n bytes of
+// the buffer are those that were read first from the events body on.
+pub fn follow(
+    rec: &mut [u8],
+    t: &[u32; 1684],
+    register: &[u8],
+    body: usize,
+    buf: &mut [u8],
+    n: usize,
+) -> Ending
     requires { ⌜ Follows (now t) (now rec) (now register) 0 ⌝ }
-    ensures { λ _. ⌜ OfSomeFile (netIn (now (t .entry))) (wordsOf (now (register .entry))) body (now (rec .entry)) (λ (d : Followed). now (rec .exit) ≡ closedAfter d) ⌝ }
+    requires { ⌜ (40 ≤ length (now buf)) × (n ≤ length (now buf)) ⌝ }
+    ensures ends { λ r. ⌜ OfSomeFile (netIn (now (t .entry))) (wordsOf (now (register .entry))) body (now (rec .entry)) (take n (now (buf .entry))) (length (now (buf .entry))) (λ (d : Followed). (r ≡ endingAfter d) × (now (rec .exit) ≡ closedAfter d)) ⌝ }
+    ensures ready { λ _. ⌜ Ready (now (t .entry)) (now (rec .exit)) ⌝ }
 {
-    let s = all_events(rec, t, register, body);
+    let s = all_events(rec, t, register, body, buf, n);
     let code = s.code;
     if code != 0 {
         let spot = s.spot;
-        refuse(code, spot.accepted);
-        return;
+        return Ending::Refused {
+            code,
+            events: spot.accepted,
+        };
     }
     closing::close(rec, t);
-    print(rec, t);
+    Ending::Report(rec.len())
 }

@@ -1,4 +1,4 @@
-// Reading the table file and standard input. A read that fails counts as the end.
+// Reading the table file and standard input, and whether there are arguments. A read that fails counts as the end.
 // Above the kit's `io` and `os` alone; `following` and `conform` use it.
 
 ghost use mathlib.Core.Path.{_≡_};
@@ -72,4 +72,9 @@ pub fn refill(buf: &mut [u8], from: usize) -> usize
     let left = to_front(buf, from);
     let got = io::read_full(0, &mut buf[left..]);
     left + got
+}
+
+// Whether the program was started with arguments, beside its own name.
+pub fn has_arguments() -> bool {
+    1 < os::arg_count()
 }

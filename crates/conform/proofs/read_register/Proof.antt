@@ -1,8 +1,7 @@
--- A register that is not refused has whole rows and starts a trail. Assumes nothing.
-use mathlib.Core.Path.{_≡_, sym, _∙_}
+-- As many bytes are there as were read. Assumes nothing.
 use native.Mathlib.Omega.{arith}
-use lib.ListN.{length, take, length-take}
-use Rattle.conform.proofs.Opening.{register-startable}
+use lib.ListN.{take, length-take}
+use Rattle.conform.proofs.Texts.{behind-contents}
 use borrow.Author.Needs.{needs}
 use Rattle.conform.proofs.read_register.Statement.{statement}
 use Rattle.conform.proofs.read_register.Tie as tie
@@ -19,33 +18,21 @@ read-some-requires c κs = search needs
 array-share-prefix-register : tie.Need-array-share-prefix-register
 array-share-prefix-register c = search needs
 
-slice-aggregate-opening-refusal : tie.Need-slice-aggregate-opening-refusal
-slice-aggregate-opening-refusal c = simp length-take (omega arith)
+slice-aggregate-open-register : tie.Need-slice-aggregate-open-register
+slice-aggregate-open-register c = simp length-take (omega arith)
 
-opening-refusal-requires : tie.Need-opening-refusal-requires
-opening-refusal-requires c κs = search needs
+open-register-requires : tie.Need-open-register-requires
+open-register-requires c κs = let s = c .before .before .before .before .before .before .before .before in (s .pre .0, (s .pre .1 .0 .0, (simp length-take (omega arith), s .pre .1 .1)))
 
-refuse-requires : tie.Need-refuse-requires
-refuse-requires c κs = search needs
+same-length : tie.Need-same-length
+same-length c = search needs
 
 returns : tie.Need-returns
-returns c = search needs
-
-array-share-prefix-register-2 : tie.Need-array-share-prefix-register-2
-array-share-prefix-register-2 c = search needs
-
-slice-aggregate-begin : tie.Need-slice-aggregate-begin
-slice-aggregate-begin c = simp length-take (omega arith)
-
-begin-requires : tie.Need-begin-requires
-begin-requires c κs =
-    let s = c .before .before .before .before .before .before .before .before .before in
-    let r = c .before .before .before .before .before .read-some in
-    let n : length (take (r .result) (r .last .0)) ≡ r .result = simp length-take (omega arith) in
-    register-startable (s .args .t .now) (s .args .table .now) (take (r .result) (r .last .0)) (s .args .claimed) (r .result) (s .pre .0) (s .pre .1) n (r .ensures .0) (sym (c .before .before .opening-refusal .ensures) ∙ c .before .if1 .left)
-
-returns-2 : tie.Need-returns-2
-returns-2 c = search needs
+returns c =
+    let s = c .before .before .before .before .before .before .before .before .before .before .before in
+    let f = c .before .before .open-register in
+    let r = c .before .before .before .before .before .before .read-some in
+    (behind-contents (s .args .table .now) (take (r .result) (r .last .0)) (s .args .claimed) (f .result) (f .last .1 .1 .1 .1 .1 .0) (s .args .claimed) (s .args .body) (f .ensures .0), f .ensures .1)
 
 pub read-register-spec : {M : Type 1} → statement M
 read-register-spec =
@@ -55,11 +42,7 @@ read-register-spec =
     slice-aggregate-read-some
     read-some-requires
     array-share-prefix-register
-    slice-aggregate-opening-refusal
-    opening-refusal-requires
-    refuse-requires
-    returns
-    array-share-prefix-register-2
-    slice-aggregate-begin
-    begin-requires
-    returns-2)
+    slice-aggregate-open-register
+    open-register-requires
+    same-length
+    returns)

@@ -1,6 +1,6 @@
--- The register claims whole rows. Assumes nothing.
-use mathlib.Core.Path.{sym, _∙_}
-use Rattle.conform.proofs.Opening.{whole-rows}
+-- The first bytes are handed on. Assumes nothing.
+use lib.ListN.{take}
+use Rattle.conform.proofs.Texts.{from-file}
 use borrow.Author.Needs.{needs}
 use Rattle.conform.proofs.read_trail.Statement.{statement}
 use Rattle.conform.proofs.read_trail.Tie as tie
@@ -14,29 +14,21 @@ read-full-requires c κs = search needs
 array-share-prefix-head : tie.Need-array-share-prefix-head
 array-share-prefix-head c = search needs
 
-slice-aggregate-read-contents : tie.Need-slice-aggregate-read-contents
-slice-aggregate-read-contents c = search needs
-
-read-contents-requires : tie.Need-read-contents-requires
-read-contents-requires c κs = search needs
-
-enum-told : tie.Need-enum-told
-enum-told c = search needs
-
-refuse-requires : tie.Need-refuse-requires
-refuse-requires c κs = search needs
-
-enum-known-register : tie.Need-enum-known-register
-enum-known-register c = search needs
+slice-aggregate-open-trail : tie.Need-slice-aggregate-open-trail
+slice-aggregate-open-trail c = search needs
 
 open-trail-requires : tie.Need-open-trail-requires
-open-trail-requires c κs = (c .before .before .before .before .before .before .before .before .before .pre, whole-rows _ _ _ (sym (c .before .before .before .read-contents .ensures .0) ∙ c .before .register .given .1))
+open-trail-requires c κs = search needs
+
+same-length : tie.Need-same-length
+same-length c = search needs
 
 returns : tie.Need-returns
-returns c = search needs
-
-returns-2 : tie.Need-returns-2
-returns-2 c = search needs
+returns c =
+    let s = c .before .before .before .before .before .before .before .before .before .before in
+    let f = c .before .before .open-trail in
+    let r = c .before .before .before .before .before .before .read-full in
+    (from-file (s .args .table .now) (take (r .result) (r .last .1 .0)) 16 (f .result) (f .last .1 .1 .1 .0) (f .ensures .0), f .ensures .1)
 
 pub read-trail-spec : {M : Type 1} → statement M
 read-trail-spec =
@@ -45,11 +37,7 @@ read-trail-spec =
     slice-aggregate-read-full
     read-full-requires
     array-share-prefix-head
-    slice-aggregate-read-contents
-    read-contents-requires
-    enum-told
-    refuse-requires
-    enum-known-register
+    slice-aggregate-open-trail
     open-trail-requires
-    returns
-    returns-2)
+    same-length
+    returns)

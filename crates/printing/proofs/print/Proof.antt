@@ -1,77 +1,46 @@
--- The buffer has room for a line, so each turn prints one line or more. The measure is how many lines are left. Assumes nothing.
-use Prim.Native.Nat.{_-_, _≤_}
-use mathlib.Core.Path.{_≡_, ap, sym, _∙_}
+-- A trail that is to be reported stands in front of the lent bytes. Assumes nothing.
+use mathlib.Core.Path.{subst}
 use native.Mathlib.Omega.{arith}
-use lib.ListN.{length, length-take}
-use Rattle.composing.specs.Parts.{linesOn, linesIn}
-use Rattle.composing.proofs.PutLaws.{part-fits}
-use Rattle.composing.proofs.SizeLaws.{some-fits}
+use lib.ListN.{length-take}
+use Rattle.printing.specs.Ending.{Printable}
+use Rattle.printing.specs.declared.Ending.the-variants.{Report}
 use borrow.Author.Needs.{needs}
 use Rattle.printing.proofs.print.Statement.{statement}
 use Rattle.printing.proofs.print.Tie as tie
 
-abbrev Inv-loop : tie.InvT-loop
-Inv-loop rec t out₀ n i₀ out i = (n ≡ linesIn rec) × (length out ≡ 4096)
+enum-known-ending : tie.Need-enum-known-ending
+enum-known-ending c = search needs
 
-abbrev μ-loop : tie.MeasureT-loop
-μ-loop rec t out₀ n i₀ out i = n - i
+-- what printing asks of a report
+asked : (c : tie.After-print-report-arg) → Printable (c .before .before .before .before .before .args .t .now) (c .before .before .before .before .before .args .rec .now) (Report (c .before .before .ending .given .0 .0))
+asked c = let s = c .before .before .before .before .before in subst (Printable (s .args .t .now) (s .args .rec .now)) (c .before .before .ending .given .1) (s .pre)
 
--- the lines fit the buffer
-fits : (c : tie.After-put-lines Inv-loop μ-loop) → c .put-lines .result .size ≤ 4096
-fits c =
-    let l = c .before .before .before .loop in
-    omega (arith, c .put-lines .ensures .size, part-fits (c .before .before .before .before .before .before .before .args .rec .now) (l .i) (length (l .out)), l .inv .1)
+slice-aggregate-print-report : tie.Need-slice-aggregate-print-report
+slice-aggregate-print-report c = simp length-take (omega (arith, asked c .0))
 
-buffer-requires : tie.Need-buffer-requires Inv-loop μ-loop
-buffer-requires c κs = search needs
+print-report-requires : tie.Need-print-report-requires
+print-report-requires c κs = asked c .1
 
-line-count-requires : tie.Need-line-count-requires Inv-loop μ-loop
-line-count-requires c κs = c .before .before .pre .held
+enum-told : tie.Need-enum-told
+enum-told c = search needs
 
-loop-holds : tie.Need-loop-holds Inv-loop μ-loop
-loop-holds c = (c .line-count .ensures ∙ ap linesOn (c .before .before .before .pre .net), sym (c .before .buffer .ensures))
+print-refusal-requires : tie.Need-print-refusal-requires
+print-refusal-requires c κs = search needs
 
-slice-aggregate-put-lines : tie.Need-slice-aggregate-put-lines Inv-loop μ-loop
-slice-aggregate-put-lines c = sym (c .before .before .loop .inv .1)
-
-put-lines-requires : tie.Need-put-lines-requires Inv-loop μ-loop
-put-lines-requires c κs = c .before .before .before .before .before .before .pre
-
-array-share-prefix-out : tie.Need-array-share-prefix-out Inv-loop μ-loop
-array-share-prefix-out c = omega (arith, fits (c .before), c .before .before .before .before .loop .inv .1)
-
-slice-aggregate-write-all : tie.Need-slice-aggregate-write-all Inv-loop μ-loop
-slice-aggregate-write-all c = simp length-take (omega (arith, fits (c .before .before), c .before .before .before .before .before .loop .inv .1))
-
-write-all-requires : tie.Need-write-all-requires Inv-loop μ-loop
-write-all-requires c κs = search needs
-
-loop-less : tie.Need-loop-less Inv-loop μ-loop
-loop-less c =
-    let s = c .before .before .before .before .before .before .before .before .before .before in
-    let l = c .before .before .before .before .before .before .loop in
-    omega (arith, c .before .before .before .put-lines .ensures .next, some-fits (s .args .t .now) (s .args .rec .now) (s .pre) (l .i) (length (l .out)) (omega arith) (omega (arith, l .inv .1)))
-
-loop-again : tie.Need-loop-again Inv-loop μ-loop
-loop-again c = (c .before .before .before .before .before .before .loop .inv .0, omega arith)
-
-returns : tie.Need-returns Inv-loop μ-loop
+returns : tie.Need-returns
 returns c = search needs
+
+returns-2 : tie.Need-returns-2
+returns-2 c = search needs
 
 pub print-spec : {M : Type 1} → statement M
 print-spec =
     tie.close
     (tie.spec
-    Inv-loop
-    μ-loop
-    buffer-requires
-    line-count-requires
-    loop-holds
-    slice-aggregate-put-lines
-    put-lines-requires
-    array-share-prefix-out
-    slice-aggregate-write-all
-    write-all-requires
-    loop-less
-    loop-again
-    returns)
+    enum-known-ending
+    slice-aggregate-print-report
+    print-report-requires
+    enum-told
+    print-refusal-requires
+    returns
+    returns-2)
