@@ -9,7 +9,6 @@ use lib.ListN.{length, getD, take, drop, length-take, length-drop}
 use lib.Seq.{take-all}
 use lib.Dec.{leb, eqb}
 use borrow.Author.Tests.{eqb-true, ltb-false, not-false, eq-eqb, le-ltb, le-leb}
-use Rattle.words.specs.Lists.{pick}
 use Rattle.words.specs.Words.{word, bytesOf, bodiesOf}
 use Rattle.words.proofs.Lists.{is-eq, not-eqb, both-true, both-right, All-append}
 use Rattle.words.proofs.Refusals.{None, none-apply, first-zero, none-split}
@@ -17,11 +16,12 @@ use Rattle.net.specs.Net.{Net, Loaded}
 use Rattle.net.specs.Table.{netOf, loadCode}
 use Rattle.net.proofs.Promise.{table-size}
 use Rattle.replay.specs.Plain.{Ask}
-use Rattle.replay.specs.State.{answerS, acceptS, askS}
+use Rattle.replay.specs.State.{askS}
 use Rattle.replay.specs.Sound.{Sound}
 use Rattle.replay.specs.Record.{counts, countsSize, countsAt, contents, encode, wordsFrom, tableIn, stateFrom, stateIn, Intact}
-use Rattle.replay.specs.Calls.{netAt, stateAt, askCode, askBytes}
+use Rattle.replay.specs.Calls.{netAt, stateAt, askBytes}
 use Rattle.replay.proofs.Encode.{Laid, counts-size, encode-le, intact-laid, intact-encode, table-encode, state-encode}
+use Rattle.replay.proofs.Calls.{ask-encode}
 use Rattle.replay.proofs.Keep.{sound-ask}
 use Rattle.checkpoint.specs.Restore.{beginsClosed, tests44, tests45, tests46, tests47, restoreTests, restoreCode}
 use Rattle.checkpoint.proofs.Spans.{Ends, ends-at, at-ends, words-from-length, words-from-bytes, words-from-read, words-head, glue, interleave-parted, parted-length}
@@ -251,15 +251,6 @@ module _ (b : List ℕ) (L : Loaded (netAt b)) (I : Intact (netAt b) b) where
 pub intact-restores : (b : List ℕ) → Loaded (netAt b) → loadCode (tableIn b) ≡ 0 → Intact (netAt b) b → restoreCode b ≡ 0
 unfolding restoreCode
 intact-restores b L z I = first-zero (restoreTests b) (none-applies b L I z)
-
--- an event or a close on an intact trail: the record of the same table and of the state after it
-pub ask-encode : (b : List ℕ) → Intact (netAt b) b → (q : Ask) → askBytes b q ≡ encode (tableIn b) (askS (netAt b) (stateAt b) q)
-unfolding askBytes askCode stateAt
-ask-encode b I q = go (eqb (answerS (netAt b) (stateAt b) q) 0)
-  where
-    go : (t : Bool) → pick t (encode (tableIn b) (acceptS (netAt b) (stateAt b) q)) b ≡ encode (tableIn b) (pick t (acceptS (netAt b) (stateAt b) q) (stateAt b))
-    go true = refl
-    go false = I .bytes
 
 -- It stays intact, with the same table, and its state follows the rules from where it stood.
 module _ (b : List ℕ) (L : Loaded (netAt b)) (I : Intact (netAt b) b) (q : Ask) where

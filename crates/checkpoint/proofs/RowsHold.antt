@@ -12,4 +12,4 @@ use Rattle.checkpoint.specs.Rows.{RowsHold}
 
 pub rows-hold : RowsHold
 unfolding T.rows tableM loadCode marked netOf word wordsOf bytesOf bodiesFrom bodiesOf bodyOf encode wordsFrom tableIn stateIn netAt stateAt askCode askBytes startRecord takeCode saveCode
-rows-hold = (refl, (refl, (refl, ((refl, refl), ((refl, refl), ((refl, refl), ((refl, refl), ((refl, refl), ((refl, refl), tt)))))))))
+rows-hold = (refl, (refl, (refl, ((refl, refl), ((refl, refl), ((refl, refl), ((refl, refl), ((refl, refl), ((refl, refl), ((refl, refl), ((refl, refl), tt)))))))))))
