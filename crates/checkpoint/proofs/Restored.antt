@@ -178,7 +178,7 @@ module _ (b : List ℕ) (z : restoreCode b ≡ 0) where
         pairs = is-eq _ _ (passed46 .1 .0);
       }
 
-  restored-sound : Sound (netAt b) (stateIn (netAt b) b)
+  pub restored-sound : Sound (netAt b) (stateIn (netAt b) b)
   unfolding stateAt
   restored-sound =
       let F = fitted in

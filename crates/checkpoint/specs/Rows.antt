@@ -12,7 +12,7 @@ use Rattle.net.specs.Rows.{tableM}
 use Rattle.net.specs.Rows as T
 use Rattle.replay.specs.State.{State, storedConsumed, storedPair, storedJumpsIn, storedJumpsOut, storedMoved, storedJumps, storedTransfers}
 use Rattle.replay.specs.Calls.{netAt, stateAt, startRecord}
-use Rattle.replay.specs.Rows.{Shown, shown, awarded, pairsBelow}
+use Rattle.replay.specs.Rows.{Shown, shown, pairsBelow}
 use Rattle.replay.specs.Rows as R
 use Rattle.checkpoint.specs.Calls.{Call, asks, save, restore, calls, told, saves}
 
@@ -61,13 +61,9 @@ Holds (replays r) =
 Holds (resumes n ks r) =
     shownBy (calls (begun ks) (goesOn n r)) (told (begun (r .kinds)) (take n (listed r)) ++ told (begun ks) (goesOn n r)) ≡ r .shows
 
--- T4
-abbrev pub fourth : R.Row
-fourth = getD R.rows 1 (awarded [])
-
--- T1 and T2; T5, taken up where a script alone was just started; T3, T4, T6 to T10
+-- T1 and T2; T5, which is T4 taken up where a script alone was just started; T3, T4, T6 to T10, and two jumps in one event
 abbrev pub rows : List Row
-rows = map loads T.rows ++ (resumes 3 (0 ∷ []) fourth ∷ map replays R.rows)
+rows = map loads T.rows ++ (resumes 3 (0 ∷ []) R.fourth ∷ map replays R.rows)
 
 -- the claim
 abbrev pub RowsHold : Type 0

@@ -4,3 +4,4 @@ pub mod ObjectsHold
 pub mod Numbers
 pub mod MaxRecordHolds
 pub mod FromC
+pub mod MaxLineHolds

@@ -23,7 +23,7 @@ use Rattle.client.specs.Client.{beginCode, saveAnswer}
 use Rattle.client.specs.MaxRecord.{MaxRecord}
 use Rattle.client.proofs.Numbers.{start-number, start-le, save-number, restore-number}
 
-restore-few : (b : List ℕ) → restoreCode b ≤ 47
+pub restore-few : (b : List ℕ) → restoreCode b ≤ 47
 unfolding restoreCode
 restore-few b = first-le 47 (restoreTests b) (omega arith)
 

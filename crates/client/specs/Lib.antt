@@ -2,3 +2,4 @@ pub mod Client
 pub mod Objects
 pub mod CallList
 pub mod MaxRecord
+pub mod MaxLine

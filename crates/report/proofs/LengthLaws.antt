@@ -16,11 +16,8 @@ use Rattle.words.specs.Refusals.{first}
 use Rattle.words.proofs.Refusals.{None}
 use Rattle.words.proofs.Sums.{term-le, sumTo-le, sumTo-mul}
 use Rattle.net.specs.Net.{Net, Arc, Loaded}
-use Rattle.net.specs.Table.{loadCode}
-use Rattle.net.proofs.Promise.{promise}
-use Rattle.replay.specs.State.{State, inputs, sunkOn, storedConsumed, storedPair, storedJumpsIn, storedJumpsOut, storedMoved, storedJumps, storedTransfers}
+use Rattle.replay.specs.State.{State, inputs, storedConsumed, storedPair, storedJumpsIn, storedJumpsOut, storedMoved, storedJumps, storedTransfers}
 use Rattle.replay.specs.Sound.{Sound}
-use Rattle.replay.specs.Record.{tableIn, Intact}
 use Rattle.replay.specs.Calls.{netAt, stateAt}
 use Rattle.replay.proofs.Encode.{fired-le, jumps-le, pairs-le}
 use Rattle.counts.specs.Reads.{placeTests, placeCode, actTests, actCode, pairTests, pairCode}
@@ -194,11 +191,6 @@ module _ (b : List ℕ) (L : Loaded (netAt b)) (S : Sound (netAt b) (stateAt b))
         act = λ q. room-code (actTests b q) (actLineAt b q) lent (λ a. omega (arith, f .act q (leb-false _ _ (a .0))));
         jump = λ x y. room-code (pairTests b x y) (jumpLineAt b x y) lent (λ a. omega (arith, f .jump x y (leb-false _ _ (a .0)) (leb-false _ _ (a .1 .0))));
       }
-
--- so it is of a record to which none of 41 to 47 applies: these are what `restore-intact` of `checkpoint` gives
-pub intact-room : (b : List ℕ) → loadCode (tableIn b) ≡ 0 → Intact (netAt b) b → (lent : List ℕ) → maxLine ≤ length lent → HasRoom b lent
-unfolding netAt stateAt
-intact-room b t I = has-room b (promise (tableIn b) t) (I .sound)
 
 -- the line of a refusal, of any two numbers, and room for it
 pub refused-fits : (code events : ℕ) → code < 4294967296 → events < 4294967296 → length (refusedLine code events) ≤ 30
