@@ -34,7 +34,7 @@ pub fn refuse_front(w: &[u32; 1684]) -> u32
     0
 }
 
-// 7, 8 or 9, or 0 where none of them applies. The tests 8 and 9 need that 7 does not apply, and not each other.
+// 7, 8 or 9, or 0 where none of them applies.
 pub fn refuse_arcs(w: &[u32; 1684]) -> u32
     requires { ⌜ Fronted (now w) ⌝ }
     ensures { λ r. ⌜ r ≡ first (arcTests (endsIn (now (w .entry))) (placesIn (now (w .entry))) (countsIn (now (w .entry))) (arcsIn (now (w .entry)))) ⌝ }
@@ -42,12 +42,10 @@ pub fn refuse_arcs(w: &[u32; 1684]) -> u32
     if bad_arcs(w) {
         return 7;
     }
-    let twice = two_of_kind(w);
-    let cut_off = unreached(w);
-    if twice {
+    if two_of_kind(w) {
         return 8;
     }
-    if cut_off {
+    if unreached(w) {
         return 9;
     }
     0
