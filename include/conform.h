@@ -106,12 +106,12 @@ uint64_t conform_close(uint8_t *trail, size_t trail_len);
 
 /* Takes up a record. Its bytes are written in front of `trail`; CONFORM_SECOND is their number, bytes behind them stay.
  *   41 to 47  the record, as above
- *   61  `trail` is shorter than the record */
+ *   61  `trail` is shorter than the record (CONFORM_MAX_RECORD bytes are always enough) */
 uint64_t conform_restore(const uint8_t *record, size_t record_len, uint8_t *trail, size_t trail_len);
 
 /* Puts down the record of a trail. It is written in front of `record`; CONFORM_SECOND is its length, bytes behind it stay.
  *   41 to 47  the trail, as above
- *   61  `record` is shorter than the trail */
+ *   61  `record` is shorter than the trail (CONFORM_MAX_RECORD bytes are always enough) */
 uint64_t conform_save(const uint8_t *trail, size_t trail_len, uint8_t *record, size_t record_len);
 
 /* THE SHEET. Each call writes one line in front of `line`, in ASCII, with its line feed and no 0 byte behind it;
