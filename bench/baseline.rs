@@ -562,8 +562,23 @@ fn replay_stream<R: std::io::Read>(net: &Net, source: R) -> Result<Box<Replay>, 
     input.start += register_len as usize;
     let mut left = events_len;
     while left > 0 {
+        // an event has at most 40 bytes: while as many are there and left, nothing has to be asked of it but its own numbers
+        input.peek(40);
+        let (mut at, end) = (input.start, input.end);
+        while end - at >= 40 && left >= 40 {
+            let seen: &[u8; 40] = input.window[at..at + 40].try_into().unwrap();
+            let (activity, count) = (word(seen, 0), word(seen, 4) as usize);
+            if count > 8 || replay.event(net, activity, &seen[8..8 + 4 * count]) != 0 {
+                break;
+            }
+            at += 8 + 4 * count;
+            left -= 8 + 4 * count as u64;
+        }
+        input.start = at;
+        if left == 0 {
+            break;
+        }
         let accepted = replay.events;
-        // an event has at most 40 bytes
         let seen = input.peek(40);
         let there = left.min(seen.len() as u64) as usize;
         if there < 8 {
