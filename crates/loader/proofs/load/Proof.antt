@@ -1,7 +1,7 @@
 -- A table that is taken is copied over the lent words, a refused one leaves them. Assumes nothing.
 use Prim.Native.Nat.{ℕ}
 use mathlib.Core.List.{List}
-use mathlib.Core.Path.{_≡_, ap, sym, _∙_}
+use mathlib.Core.Path.{_≡_, refl, ap, sym, _∙_}
 use lib.ListN.{length, replicate}
 use lib.Seq.{sets}
 use Rattle.net.specs.Table.{loadCode}
@@ -15,7 +15,7 @@ count-words-requires : tie.Need-count-words-requires
 count-words-requires c κs = search needs
 
 load-fresh-requires : tie.Need-load-fresh-requires
-load-fresh-requires c κs = search needs
+load-fresh-requires c κs = refl
 
 number-requires : tie.Need-number-requires
 number-requires c κs = search needs
