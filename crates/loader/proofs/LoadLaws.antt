@@ -135,9 +135,9 @@ module _ (b : List ℕ) (z : first (shapeTests b) ≡ 0) where
     unfolding netIn
     ruled x = ruled-by w2 fronted (none-apply (arcTests (endsIn w2) (placesIn w2) (countsIn w2) (arcsIn w2)) (omega arith) x .0)
 
-    -- the words and the look-up words of their net are what loading leaves of zeros
-    pub loaded : loadCode b ≡ 0 → indexRows (netIn w2 .kindOf) 1172 (parts (countsIn w2) (pairUp (arcsIn w2))) w2 ≡ loadedWords b (replicate 1684 0)
+    -- the words, with the look-up words of their net stored too, are what loading leaves of zeros
+    pub loaded : indexRows (netIn w2 .kindOf) 1172 (parts (countsIn w2) (pairUp (arcsIn w2))) w2 ≡ loadedWords b (replicate 1684 0)
     unfolding loadedWords netIn bodyWords
-    loaded e =
+    loaded =
         rw (ends-in A B C front (length D / 2) w2 (H2 .front), places-in A B C front (length D / 2) w2 (H2 .front), counts-in A B C front (length D / 2) w2 (H2 .front), arcs-in A B C D front arcs w2 H2, sym w1-is)
         (ap (indexRows (λ (p : ℕ). getD B p 0) 1172 (parts C (pairUp D))) (sym (sets-all (replicate 1684 0) w2 (length-replicate {A = ℕ} 1684 0 ∙ sym (H2 .front .size)))))

@@ -95,7 +95,7 @@ module _ (b w : List ℕ) (size : length w ≡ 1684) (taken : loadCode b ≡ 0) 
       (rows-at (λ (p : ℕ). getD (bodyOf b 1) p 0) 1172 (rowsOf b) B small once
       (omega (arith, front .counts-few)) (no-words (bodyOf b 0) (bodyOf b 1) (bodyOf b 2) (bodyOf b 3) front arcs) a k (omega arith) (omega (arith, promise b taken .kinds-le)))
 
--- all words are overwritten: what they were before does not matter
+-- loading overwrites all words: what they were before does not matter
 pub loaded-same : (b w v : List ℕ) → length w ≡ 1684 → length v ≡ 1684 → loadCode b ≡ 0 → loadedWords b w ≡ loadedWords b v
 loaded-same b w v e f z = loaded-is b w e z ∙ sym (loaded-is b v f z)
 

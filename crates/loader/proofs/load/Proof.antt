@@ -1,6 +1,4 @@
 -- A table that is taken is copied over the lent words, a refused one leaves them. Assumes nothing.
-use Prim.Native.Nat.{ℕ}
-use mathlib.Core.List.{List}
 use mathlib.Core.Path.{_≡_, refl, ap, sym, _∙_}
 use lib.ListN.{length, replicate}
 use lib.Seq.{sets}

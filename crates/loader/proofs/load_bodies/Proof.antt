@@ -72,7 +72,7 @@ returns-3 c =
     let z : loadCode (s .args .s .now) ≡ 0 = sym (code-is d) ∙ c .before .before .if2 .left in (
       sym z,
       λ e. subst (λ (w : _). c .index-arcs .last .0 ≡ indexRows (netIn w .kindOf) 1172 (parts (countsIn w) (pairUp (arcsIn w))) w) (arcs-are (d .before .before)) (c .index-arcs .ensures)
-          ∙ loaded (s .args .s .now) (s .pre .0) (no-front (d .before .before .before .before)) e ∙ ap (loadedWords (s .args .s .now)) (sym (s .pre .1)),
+          ∙ loaded (s .args .s .now) (s .pre .0) (no-front (d .before .before .before .before)) ∙ ap (loadedWords (s .args .s .now)) (sym (s .pre .1)),
     )
 
 pub load-bodies-spec : {M : Type 1} → statement M
