@@ -1,4 +1,4 @@
--- Taking up a record into lent bytes, and the work words of its check.
+-- Taking up a record into lent bytes, and what holds of it and of the work words after the steps of its check.
 use Prim.Native.Nat.{ℕ, _≤_}
 use mathlib.Core.Bool.{Bool, true}
 use mathlib.Core.Path.{_≡_}
@@ -9,10 +9,10 @@ use Rattle.words.specs.Lists.{pick, over}
 use Rattle.words.specs.Refusals.{first}
 use Rattle.words.specs.Words.{bodiesOf, endsAt}
 use Rattle.net.specs.Table.{loadCode}
-use Rattle.net.specs.Held.{netIn, afterLoad, Held}
+use Rattle.net.specs.Held.{netIn, Held}
 use Rattle.replay.specs.Record.{tableIn}
 use Rattle.replay.specs.Calls.{netAt}
-use Rattle.checkpoint.specs.Restore.{tests41, tests42, restoreTests}
+use Rattle.checkpoint.specs.Restore.{restoreTests}
 
 -- none of 41 and 42 applies to the record b
 pub record Framed (b : List ℕ) : Type 0 where
@@ -26,10 +26,6 @@ pub record Opened (b w : List ℕ) : Type 0 where
   pub loads : loadCode (tableIn b) ≡ 0
   pub held : Held w
   pub net : netIn w ≡ netAt b
-
--- The words w after a check of the record b: its table is loaded into them where none of 41 and 42 applies.
-unfoldable pub checkedWords : List ℕ → List ℕ → List ℕ
-checkedWords b w = pick (eqb (first (tests41 b ++ tests42 b)) 0) (afterLoad (tableIn b) w) w
 
 -- 41 to 47; 61: the lent part, of `room` bytes, is shorter than the record r
 abbrev pub takeTests : List ℕ → ℕ → List (Bool × ℕ)

@@ -31,7 +31,7 @@ pub extern "C" fn conform_load(table: &[u8]) -> u64
     ensures { λ r. ⌜ r ≡ loadAnswer (now (table .entry)) ⌝ }
 {
     let mut t = [0u32; 1684];
-    pack(net::number(loader::load(table, &mut t)), 0)
+    pack(net::number(loader::load_fresh(table, &mut t)), 0)
 }
 
 // Starts a trail: 1 to 9 of the table, 11 and 12 of the objects' kinds, and 61; or its record in front of the lent bytes.
@@ -41,7 +41,7 @@ pub extern "C" fn conform_start(table: &[u8], objects: &[u8], trail: &mut [u8]) 
     ensures { λ _. ⌜ now (trail .exit) ≡ startLeaves (now (table .entry)) (now (objects .entry)) (now (trail .entry)) ⌝ }
 {
     let mut t = [0u32; 1684];
-    let refused = net::number(loader::load(table, &mut t));
+    let refused = net::number(loader::load_fresh(table, &mut t));
     if refused != 0 {
         return pack(refused, 0);
     }

@@ -18,7 +18,7 @@ use printing::print;
 ghost use mathlib.Core.Path.{_≡_};
 ghost use mathlib.Core.List.{[]};
 ghost use Prim.Native.Nat.{_%_, _<_, _≤_};
-ghost use lib.ListN.{length, take};
+ghost use lib.ListN.{length, take, replicate};
 ghost use Rattle.net.specs.Held.{netIn, Held, Tabled};
 ghost use Rattle.words.specs.Words.{wordsOf};
 ghost use Rattle.net.specs.Table.{netOf};
@@ -38,7 +38,7 @@ fn record_buffer() -> [u8; 29844]
 
 // Room for a loaded net.
 fn net_buffer() -> [u32; 1684]
-    ensures { λ r. ⌜ 1684 ≡ length r ⌝ }
+    ensures { λ r. ⌜ r ≡ replicate 1684 0 ⌝ }
 {
     [0; 1684]
 }
@@ -183,12 +183,12 @@ fn read_trail(table: &[u8], t: &[u32; 1684], rec: &mut [u8]) -> Ending
 
 // What is to be printed, by the table file's bytes and what is read from standard input. The trail is left in the lent bytes.
 fn decide(table: &[u8], t: &mut [u32; 1684], rec: &mut [u8]) -> Ending
-    requires { ⌜ 1684 ≡ length (now t) ⌝ }
+    requires { ⌜ now t ≡ replicate 1684 0 ⌝ }
     requires { ⌜ 29844 ≤ length (now rec) ⌝ }
     ensures text { λ r. ⌜ FromFile (now (table .entry)) [] 0 r (now (rec .exit)) ⌝ }
     ensures printable { λ r. ⌜ Printable (now (t .exit)) (now (rec .exit)) r ⌝ }
 {
-    let number = net::number(loader::load(table, t));
+    let number = net::number(loader::load_fresh(table, t));
     if number != 0 {
         return Ending::Refused {
             code: number,

@@ -8,41 +8,27 @@ use native.Mathlib.Omega.{arith}
 use lib.ListN.{length, getD}
 use borrow.Author.Tests.{eq-eqb, ne-eqb}
 use Rattle.words.specs.Lists.{pick}
-use Rattle.words.proofs.Refusals.{none-apply}
-use Rattle.net.specs.Table.{loadCode}
-use Rattle.net.specs.Held.{afterLoad}
-use Rattle.net.proofs.HeldLaws.{loaded-held, held-net}
 use Rattle.net.proofs.Promise.{table-size}
 use Rattle.replay.specs.Record.{tableIn}
-use Rattle.replay.specs.Calls.{netAt}
 use Rattle.replay.specs.Ready.{Ready}
-use Rattle.checkpoint.specs.Restore.{restoreTests, restoreCode, restoreSecond}
-use Rattle.checkpoint.specs.Take.{checkedWords}
-use Rattle.checkpoint.proofs.Restored.{restore-intact, restored-le, restored-loads}
+use Rattle.checkpoint.specs.Restore.{restoreCode, restoreSecond}
+use Rattle.checkpoint.specs.Take.{Opened}
+use Rattle.checkpoint.proofs.Restored.{restore-intact, restored-le}
 use Rattle.answers.specs.Answers.{packed}
 use Rattle.lent.specs.OnTrail.{onTrail, leftBy}
 use Rattle.lent.specs.Checked.{Checked}
 
--- a trail that is taken: it has no second number, and the words of its check hold its net
-module _ (b : List ℕ) (z : restoreCode b ≡ 0) where
-  no-second : restoreSecond b ≡ 0
-  unfolding restoreSecond
-  no-second = rw z
+-- a trail that is taken has no second number
+no-second : (b : List ℕ) → restoreCode b ≡ 0 → restoreSecond b ≡ 0
+unfolding restoreSecond
+no-second b z = rw z
 
-  words-checked : (w : List ℕ) → checkedWords b w ≡ afterLoad (tableIn b) w
-  unfolding checkedWords restoreCode
-  words-checked w = let n = none-apply (restoreTests b) (omega arith) z in rw (n .0, n .1 .0, n .1 .1 .0)
-
-  ready-checked : (w : List ℕ) → length w ≡ 1684 → ((i : ℕ) → getD b i 0 < 256) → Ready (checkedWords b w) b
-  unfolding afterLoad netAt
-  ready-checked w e small =
-      let l : loadCode (tableIn b) ≡ 0 = restored-loads b z in
-      rw (words-checked w, eq-eqb (loadCode (tableIn b)) 0 l)
-      (record { held = loaded-held (tableIn b) w e l; net = held-net (tableIn b) w e l; intact = restore-intact b small z .1; whole = table-size (tableIn b) l .2 })
-
--- the check's two numbers in one
-pub checked-by : (b w v : List ℕ) (r : ℕ) → r ≡ packed (restoreCode b) (restoreSecond b) → v ≡ checkedWords b w → length w ≡ 1684 → ((i : ℕ) → getD b i 0 < 256) → Checked b v r
-checked-by b w v r e f l small = record { answer = e; ready = λ z. rw f (ready-checked b (omega arith) w l small) }
+-- the check's two numbers in one, and the words that hold the net of a trail that is taken
+pub checked-by : (b w : List ℕ) (r : ℕ) → r ≡ packed (restoreCode b) (restoreSecond b) → (restoreCode b ≡ 0 → Opened b w) → ((i : ℕ) → getD b i 0 < 256) → Checked b w r
+checked-by b w r e o small = record { answer = e; ready = λ z. ready (omega arith) }
+  where
+    ready : restoreCode b ≡ 0 → Ready w b
+    ready z = let O = o z in record { held = O .held; net = O .net; intact = restore-intact b small z .1; whole = table-size (tableIn b) (O .loads) .2 }
 
 module _ (b w : List ℕ) (r : ℕ) (C : Checked b w r) where
   -- the trail is refused

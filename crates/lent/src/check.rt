@@ -4,12 +4,12 @@ use answers::pack;
 use checkpoint::number;
 use checkpoint::second;
 ghost use mathlib.Core.Path.{_≡_};
-ghost use lib.ListN.{length};
+ghost use lib.ListN.{replicate};
 ghost use Rattle.lent.specs.Checked.{Checked};
 
-// 41 to 47 with the second number of 43 and 44. Where none applies it is 0, and the words t hold the trail's net.
+// 41 to 47 with the second number of 43 and 44. Where none applies it is 0, and the words t, all zero before, hold the trail's net.
 pub fn checked(trail: &[u8], t: &mut [u32; 1684]) -> u64
-    requires { ⌜ length (now t) ≡ 1684 ⌝ }
+    requires { ⌜ now t ≡ replicate 1684 0 ⌝ }
     ensures { λ r. ⌜ Checked (now (trail .entry)) (now (t .exit)) r ⌝ }
 {
     let r = resuming::check(trail, t);

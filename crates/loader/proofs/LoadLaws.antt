@@ -1,23 +1,25 @@
 -- Loading, step by step: what the words hold after each, and what the tests on words say of the bytes. Assumes nothing.
 use Prim.Native.Nat.{ℕ, _+_, _/_, _≤_}
 use mathlib.Core.Bool.{Bool, false}
-use mathlib.Core.Path.{_≡_, sym, _∙_, subst}
+use mathlib.Core.Path.{_≡_, ap, sym, _∙_, subst}
 use mathlib.Core.List.{List, _++_}
 use native.Mathlib.Omega.{arith}
-use lib.ListN.{length, replicate}
+use lib.ListN.{length, getD, replicate, length-replicate}
 use lib.Seq.{sets}
 use borrow.Author.Tests.{eq-eqb, ne-eqb}
-use Rattle.words.specs.Lists.{any, pairUp}
+use Rattle.words.specs.Lists.{any, pairUp, parts}
 use Rattle.words.specs.Refusals.{first}
 use Rattle.words.specs.Words.{word, bodyOf}
 use Rattle.words.proofs.Lists.{is-eq}
 use Rattle.words.proofs.Refusals.{None, none-apply, first-then, first-stays, first-le}
 use Rattle.net.specs.Table.{badArc, shapeTests, endTests, arcTests, loadTests, loadCode}
-use Rattle.net.specs.Held.{endsIn, placesIn, countsIn, arcsIn, netIn, frontWords, bodyWords, frontOver, keptWords, loadedWords, afterLoad, Sized}
+use Rattle.net.specs.Held.{endsIn, placesIn, countsIn, arcsIn, netIn, frontWords, bodyWords, indexRows, frontOver, loadedWords, afterLoad, Sized}
 use Rattle.net.specs.Ruled.{frontTests, Fronted, Ruled}
 use Rattle.net.proofs.Bodies.{Shaped, shaped}
 use Rattle.net.proofs.BodyWords.{FitFront, FitArcs, Front, Holds, front-words, with-arcs, ends-in, places-in, counts-in, arcs-in, sized}
 use Rattle.net.proofs.Room.{fit-front, fit-arcs}
+use Rattle.net.proofs.Sets.{sets-all}
+use Rattle.net.proofs.HeldLaws.{loaded-held, loaded-same, held-sized}
 use Rattle.net.proofs.Views.{length-pairs}
 
 -- words to which neither 3 to 6 nor 7 applies
@@ -30,10 +32,22 @@ pub code-le : (b : List ℕ) → loadCode b ≤ 9
 unfolding loadCode
 code-le b = first-le 9 (loadTests b) (omega arith)
 
--- a refused table leaves the words alone
+-- a refused table leaves lent words alone
 pub refused-words : (b t : List ℕ) → (loadCode b ≡ 0 → ⊥) → t ≡ afterLoad b t
 unfolding afterLoad
 refused-words b t n = rw (ne-eqb (loadCode b) 0 n)
+
+-- a table that is taken, loaded into zeros: 1,684 words, and over the lent words they are what loading leaves of those
+module _ (b : List ℕ) (z : loadCode b ≡ 0) where
+  zeros : length {A = ℕ} (replicate 1684 0) ≡ 1684
+  zeros = length-replicate {A = ℕ} 1684 0
+
+  pub loaded-length : length (loadedWords b (replicate 1684 0)) ≡ 1684
+  loaded-length = held-sized (loadedWords b (replicate 1684 0)) (loaded-held b (replicate 1684 0) zeros z) .size
+
+  pub taken-words : (t : List ℕ) → length t ≡ 1684 → sets t 0 (loadedWords b (replicate 1684 0)) ≡ afterLoad b t
+  unfolding afterLoad
+  taken-words t e = rw (eq-eqb (loadCode b) 0 z) (sets-all t (loadedWords b (replicate 1684 0)) (e ∙ sym loaded-length) ∙ loaded-same b (replicate 1684 0) t zeros e z)
 
 -- the tests behind those of the shape
 abbrev bodyTests : List ℕ → List (Bool × ℕ)
@@ -121,6 +135,9 @@ module _ (b : List ℕ) (z : first (shapeTests b) ≡ 0) where
     unfolding netIn
     ruled x = ruled-by w2 fronted (none-apply (arcTests (endsIn w2) (placesIn w2) (countsIn w2) (arcsIn w2)) (omega arith) x .0)
 
-    pub kept : (t : List ℕ) → loadCode b ≡ 0 → keptWords w2 t ≡ afterLoad b t
-    unfolding keptWords afterLoad loadedWords netIn bodyWords
-    kept t e = rw (eq-eqb (loadCode b) 0 e, ends-in A B C front (length D / 2) w2 (H2 .front), places-in A B C front (length D / 2) w2 (H2 .front), counts-in A B C front (length D / 2) w2 (H2 .front), arcs-in A B C D front arcs w2 H2, sym w1-is)
+    -- the words, with the look-up words of their net stored too, are what loading leaves of zeros
+    pub loaded : indexRows (netIn w2 .kindOf) 1172 (parts (countsIn w2) (pairUp (arcsIn w2))) w2 ≡ loadedWords b (replicate 1684 0)
+    unfolding loadedWords netIn bodyWords
+    loaded =
+        rw (ends-in A B C front (length D / 2) w2 (H2 .front), places-in A B C front (length D / 2) w2 (H2 .front), counts-in A B C front (length D / 2) w2 (H2 .front), arcs-in A B C D front arcs w2 H2, sym w1-is)
+        (ap (indexRows (λ (p : ℕ). getD B p 0) 1172 (parts C (pairUp D))) (sym (sets-all (replicate 1684 0) w2 (length-replicate {A = ℕ} 1684 0 ∙ sym (H2 .front .size)))))

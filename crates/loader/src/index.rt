@@ -1,4 +1,4 @@
-// The look-up words of a loaded net: each arc at its activity and kind.
+// The look-up words of a net, behind its other words: each arc at its activity and kind.
 
 use net::COUNTS;
 use net::INDEX;
@@ -14,33 +14,33 @@ ghost use Rattle.net.specs.Held.{netIn, countsIn, arcsIn, indexRow, indexRows};
 ghost use Rattle.net.specs.Ruled.{Ruled};
 
 // The n arcs from arc `from` on, each at its kind's word of the eight from word `base` on.
-fn index_row(w: &[u32; 1684], from: usize, n: usize, t: &mut [u32; 1684], base: usize)
-    requires { ⌜ Ruled (now w) ⌝ }
-    requires { ⌜ (from + n ≤ getD (now w) 3 0) × (base + 8 ≤ 1684) ⌝ }
-    ensures { λ _. ⌜ now (t .exit) ≡ indexRow (netIn (now (w .entry)) .kindOf) base (take n (drop from (pairUp (arcsIn (now (w .entry)))))) (now (t .entry)) ⌝ }
+fn index_row(t: &mut [u32; 1684], from: usize, n: usize, base: usize)
+    requires { ⌜ Ruled (now t) ⌝ }
+    requires { ⌜ (from + n ≤ getD (now t) 3 0) × (1172 ≤ base) × (base + 8 ≤ 1684) ⌝ }
+    ensures { λ _. ⌜ now (t .exit) ≡ indexRow (netIn (now (t .entry)) .kindOf) base (take n (drop from (pairUp (arcsIn (now (t .entry)))))) (now (t .entry)) ⌝ }
 {
     let mut i = 0;
     while i < n {
         let j = from + i;
-        let p = w[INPUTS + 2 * j];
-        let q = w[OUTPUTS + 2 * j];
-        let k = wide(w[PLACES + wide(p)]);
+        let p = t[INPUTS + 2 * j];
+        let q = t[OUTPUTS + 2 * j];
+        let k = wide(t[PLACES + wide(p)]);
         t[base + k] = p + 256 * q + 65536;
         i += 1;
     }
 }
 
 // The arcs of all activities.
-pub fn index_arcs(w: &[u32; 1684], t: &mut [u32; 1684])
-    requires { ⌜ Ruled (now w) ⌝ }
-    ensures { λ _. ⌜ now (t .exit) ≡ indexRows (netIn (now (w .entry)) .kindOf) 1172 (parts (countsIn (now (w .entry))) (pairUp (arcsIn (now (w .entry))))) (now (t .entry)) ⌝ }
+pub fn index_arcs(t: &mut [u32; 1684])
+    requires { ⌜ Ruled (now t) ⌝ }
+    ensures { λ _. ⌜ now (t .exit) ≡ indexRows (netIn (now (t .entry)) .kindOf) 1172 (parts (countsIn (now (t .entry))) (pairUp (arcsIn (now (t .entry))))) (now (t .entry)) ⌝ }
 {
-    let n = wide(w[2]);
+    let n = wide(t[2]);
     let mut from = 0;
     let mut a = 0;
     while a < n {
-        let size = wide(w[COUNTS + a]);
-        index_row(w, from, size, t, INDEX + 8 * a);
+        let size = wide(t[COUNTS + a]);
+        index_row(t, from, size, INDEX + 8 * a);
         from += size;
         a += 1;
     }

@@ -1,4 +1,4 @@
-// Loading: a table file's bytes become a loaded net in lent words, or are refused with the first number from 1 to 9 that applies.
+// Loading: a table file's bytes become a loaded net in words, or are refused with the first number from 1 to 9 that applies.
 // Above `net`, and `places`, `arcs` and `routes`, which have the tests 4 and 5, 6 and 7, 8 and 9.
 
 use crate::fill::copy_all;
@@ -15,10 +15,10 @@ use net::PLACES;
 use net::SOURCES;
 ghost use mathlib.Core.Path.{_≡_};
 ghost use Prim.Native.Nat.{_≤_};
+ghost use lib.ListN.{length, replicate};
 ghost use Rattle.words.specs.Refusals.{first};
 ghost use Rattle.net.specs.Table.{shapeTests, loadCode};
-ghost use Rattle.net.specs.Held.{frontOver, keptWords, afterLoad};
-ghost use Rattle.net.specs.Ruled.{Ruled};
+ghost use Rattle.net.specs.Held.{frontOver, loadedWords, afterLoad};
 ghost use Rattle.net.specs.Answer.{codeOf};
 
 mod fill;
@@ -43,37 +43,29 @@ fn copy_front(s: &[u8], w: &mut [u32; 1684])
     copy_body(s, 2, w, COUNTS);
 }
 
-// The lent words t become the words w, to which none of 4 to 7 applies, and behind them the look-up words of their net.
-fn keep_words(w: &[u32; 1684], t: &mut [u32; 1684])
-    requires { ⌜ Ruled (now w) ⌝ }
-    ensures { λ _. ⌜ now (t .exit) ≡ keptWords (now (w .entry)) (now (t .entry)) ⌝ }
-{
-    copy_all(w, t);
-    index_arcs(w, t);
-}
-
-// A table to which none of 1 to 3 applies: 4 to 9, or 0 where it is loaded.
+// A table to which none of 1 to 3 applies: 4 to 9, or 0 where it is loaded into the words, which are all zero.
 fn load_bodies(s: &[u8], t: &mut [u32; 1684]) -> u32
     requires { ⌜ first (shapeTests (now s)) ≡ 0 ⌝ }
-    ensures { λ r. ⌜ (r ≡ loadCode (now (s .entry))) × (now (t .exit) ≡ afterLoad (now (s .entry)) (now (t .entry))) ⌝ }
+    requires { ⌜ now t ≡ replicate 1684 0 ⌝ }
+    ensures { λ r. ⌜ (r ≡ loadCode (now (s .entry))) × (loadCode (now (s .entry)) ≡ 0 → now (t .exit) ≡ loadedWords (now (s .entry)) (now (t .entry))) ⌝ }
 {
-    let mut w = [0u32; 1684];
-    copy_front(s, &mut w);
-    let front = refuse_front(&w);
+    copy_front(s, t);
+    let front = refuse_front(t);
     if front != 0 {
         return front;
     }
-    copy_body(s, 3, &mut w, INPUTS);
-    let arcs = refuse_arcs(&w);
+    copy_body(s, 3, t, INPUTS);
+    let arcs = refuse_arcs(t);
     if arcs != 0 {
         return arcs;
     }
-    keep_words(&w, t);
+    index_arcs(t);
     0
 }
 
 fn load_code(s: &[u8], t: &mut [u32; 1684]) -> u32
-    ensures { λ r. ⌜ (r ≡ loadCode (now (s .entry))) × (now (t .exit) ≡ afterLoad (now (s .entry)) (now (t .entry))) ⌝ }
+    requires { ⌜ now t ≡ replicate 1684 0 ⌝ }
+    ensures { λ r. ⌜ (r ≡ loadCode (now (s .entry))) × (loadCode (now (s .entry)) ≡ 0 → now (t .exit) ≡ loadedWords (now (s .entry)) (now (t .entry))) ⌝ }
 {
     let r = refuse_shape(s);
     if r != 0 {
@@ -101,10 +93,36 @@ fn answer(n: u32) -> LoadAnswer
     }
 }
 
+// Loads a table file into words that are all zero. Where it is refused, nothing is said of them.
+pub fn load_fresh(s: &[u8], t: &mut [u32; 1684]) -> LoadAnswer
+    requires { ⌜ now t ≡ replicate 1684 0 ⌝ }
+    ensures { λ r. ⌜ (codeOf r ≡ loadCode (now (s .entry))) × (loadCode (now (s .entry)) ≡ 0 → now (t .exit) ≡ loadedWords (now (s .entry)) (now (t .entry))) ⌝ }
+{
+    let r = load_code(s, t);
+    answer(r)
+}
+
+fn words_of(t: [u32; 1684])
+    ensures { λ _. ⌜ length t ≡ 1684 ⌝ }
+{}
+
+// Lent words are as many as their type says: this does nothing, and is called for what it ensures.
+fn count_words(t: &[u32; 1684])
+    ensures { λ _. ⌜ length (now (t .entry)) ≡ 1684 ⌝ }
+{
+    words_of(*t);
+}
+
 // Loads a table file into lent words. Where it is refused the words stay as they are.
 pub fn load(s: &[u8], t: &mut [u32; 1684]) -> LoadAnswer
     ensures { λ r. ⌜ (codeOf r ≡ loadCode (now (s .entry))) × (now (t .exit) ≡ afterLoad (now (s .entry)) (now (t .entry))) ⌝ }
 {
-    let r = load_code(s, t);
-    answer(r)
+    count_words(t);
+    let mut w = [0u32; 1684];
+    let r = load_fresh(s, &mut w);
+    if net::number(r) != 0 {
+        return r;
+    }
+    copy_all(&w, t);
+    r
 }

@@ -4,7 +4,6 @@ use mathlib.Core.Bool.{true, false}
 use mathlib.Core.Path.{_≡_, refl, ap, sym, subst, _∙_}
 use mathlib.Core.List.{List, []}
 use native.Mathlib.Omega.{arith}
-use borrow.Author.Tests.{eq-eqb}
 use lib.ListN.{length, getD}
 use lib.Seq.{sets}
 use Rattle.words.specs.Lists.{pick, All, pairUp, parts, twice}
@@ -12,7 +11,7 @@ use Rattle.words.specs.Words.{bodyOf}
 use Rattle.words.proofs.Lists.{All-of, All-to, is-eq}
 use Rattle.net.specs.Net.{Net, Arc, Loaded, GoodArc, takes, inputOf, outputOf, kindsOf}
 use Rattle.net.specs.Table.{netOf, loadCode}
-use Rattle.net.specs.Held.{countsIn, arcsIn, netIn, pack, bodyWords, loadedWords, afterLoad, Held, Tabled, Sized}
+use Rattle.net.specs.Held.{countsIn, arcsIn, netIn, pack, indexRows, bodyWords, loadedWords, Held, Tabled, Sized}
 use Rattle.net.proofs.Views.{counts-length, count-at}
 use Rattle.net.proofs.Parts.{sum, length-parts, part-length}
 use Rattle.net.proofs.Promise.{passed, taken-shape, promise}
@@ -53,10 +52,12 @@ module _ (b w : List ℕ) (size : length w ≡ 1684) (taken : loadCode b ≡ 0) 
   pub loaded-held : Held (loadedWords b w)
   loaded-held = record { table = b; before = w; size = size; taken = taken; words = refl }
 
-  -- what loading the table leaves of the words
-  pub loaded-tabled : (v : List ℕ) → v ≡ afterLoad b w → Tabled v b
-  unfolding afterLoad
-  loaded-tabled v e = rw (e, eq-eqb (loadCode b) 0 taken) (record { held = loaded-held; net = held-net; taken = taken })
+  loaded-is : loadedWords b w ≡ indexRows (λ (p : ℕ). getD (bodyOf b 1) p 0) 1172 (rowsOf b) (bodyWords (bodyOf b 0) (bodyOf b 1) (bodyOf b 2) (bodyOf b 3))
+  unfolding loadedWords
+  loaded-is = ap (indexRows (λ (p : ℕ). getD (bodyOf b 1) p 0) 1172 (rowsOf b)) whole
+
+  pub loaded-tabled : (v : List ℕ) → v ≡ loadedWords b w → Tabled v b
+  loaded-tabled v e = rw e (record { held = loaded-held; net = held-net; taken = taken })
 
   loaded-sized : Sized (loadedWords b w)
   loaded-sized = sized (bodyOf b 0) (bodyOf b 1) (bodyOf b 2) front (length (bodyOf b 3) / 2) (loadedWords b w) (holds .front)
@@ -93,6 +94,10 @@ module _ (b w : List ℕ) (size : length w ≡ 1684) (taken : loadCode b ≡ 0) 
       rw whole
       (rows-at (λ (p : ℕ). getD (bodyOf b 1) p 0) 1172 (rowsOf b) B small once
       (omega (arith, front .counts-few)) (no-words (bodyOf b 0) (bodyOf b 1) (bodyOf b 2) (bodyOf b 3) front arcs) a k (omega arith) (omega (arith, promise b taken .kinds-le)))
+
+-- loading overwrites all words: what they were before does not matter
+pub loaded-same : (b w v : List ℕ) → length w ≡ 1684 → length v ≡ 1684 → loadCode b ≡ 0 → loadedWords b w ≡ loadedWords b v
+loaded-same b w v e f z = loaded-is b w e z ∙ sym (loaded-is b v f z)
 
 -- the same of any words that hold a loaded net
 module _ (w : List ℕ) (H : Held w) where

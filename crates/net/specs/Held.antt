@@ -61,10 +61,6 @@ unfoldable pub frontOver : List ℕ → List ℕ → List ℕ
 frontOver b w =
     sets (sets (sets (sets w 0 (word b 4 / 8 ∷ word b 12 / 4 ∷ word b 20 / 4 ∷ word b 28 / 8 ∷ [])) 4 (bodyOf b 0)) 20 (bodyOf b 1)) 84 (bodyOf b 2)
 
--- the words w over the lent words t, and the look-up words of the net that w holds
-unfoldable pub keptWords : List ℕ → List ℕ → List ℕ
-keptWords w t = indexRows (netIn w .kindOf) 1172 (parts (countsIn w) (pairUp (arcsIn w))) (sets t 0 w)
-
 -- the lent words after a call of loading: unchanged where the table is refused
 unfoldable pub afterLoad : List ℕ → List ℕ → List ℕ
 afterLoad b w = pick (eqb (loadCode b) 0) (loadedWords b w) w

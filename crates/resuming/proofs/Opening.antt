@@ -16,13 +16,13 @@ use Rattle.words.proofs.Lists.{is-eq}
 use Rattle.words.proofs.Refusals.{first-then, first-stays}
 use Rattle.net.specs.Net.{Net}
 use Rattle.net.specs.Table.{loadCode}
-use Rattle.net.specs.Held.{afterLoad, netIn}
+use Rattle.net.specs.Held.{loadedWords, netIn}
 use Rattle.net.proofs.HeldLaws.{loaded-held, held-net}
 use Rattle.replay.specs.Plain.{registerCode}
 use Rattle.replay.specs.Record.{countsSize, wordsFrom, tableIn, stateFrom, stateIn}
 use Rattle.replay.specs.Calls.{netAt, stateAt}
 use Rattle.checkpoint.specs.Restore.{beginsClosed, tests44, tests45, tests46, tests47, bodyTests, restoreTests, restoreCode, restoreSecond}
-use Rattle.checkpoint.specs.Take.{Framed, Opened, checkedWords, takeCode, takeBytes}
+use Rattle.checkpoint.specs.Take.{Framed, Opened, takeCode, takeBytes}
 use Rattle.judging.specs.Judge.{closedBy, judgeCode, judgeSecond}
 use Rattle.words.proofs.Words.{words-take, word-drop}
 use Rattle.checkpoint.proofs.Spans.{ends-at}
@@ -163,9 +163,9 @@ module _ (b : List ℕ) (F : Framed b) where
         last false t x y h = refl
 
   -- what loading the record's table leaves
-  pub opened : (w : List ℕ) → length w ≡ 1684 → loadCode (tableIn b) ≡ 0 → Opened b (afterLoad (tableIn b) w)
-  unfolding afterLoad netAt
-  opened w e z = rw (eq-eqb (loadCode (tableIn b)) 0 z) (record { framed = F; loads = z; held = loaded-held (tableIn b) w e z; net = held-net (tableIn b) w e z })
+  pub opened : (w : List ℕ) → length w ≡ 1684 → loadCode (tableIn b) ≡ 0 → Opened b (loadedWords (tableIn b) w)
+  unfolding netAt
+  opened w e z = record { framed = F; loads = z; held = loaded-held (tableIn b) w e z; net = held-net (tableIn b) w e z }
 
   table-code : (loadCode (tableIn b) ≡ 0 → ⊥) → 43 ≡ restoreCode b
   unfolding restoreCode
@@ -174,10 +174,6 @@ module _ (b : List ℕ) (F : Framed b) where
   pub table-refused : (loadCode (tableIn b) ≡ 0 → ⊥) → (43 ≡ restoreCode b) × (loadCode (tableIn b) ≡ restoreSecond b)
   unfolding restoreSecond
   table-refused n = (table-code n, rw (← table-code n))
-
-  pub framed-words : (w : List ℕ) → afterLoad (tableIn b) w ≡ checkedWords b w
-  unfolding checkedWords
-  framed-words w = rw (le-ltb (length b) 40 (F .size-ge), le-ltb 29844 (length b) (F .size-le), F .laid)
 
 -- the parts that the code cuts out are the bodies
 module _ (b w : List ℕ) (O : Opened b w) where
@@ -197,25 +193,23 @@ module _ (b w : List ℕ) (O : Opened b w) where
       part : (n m i l : ℕ) → n ≡ m → i ≡ l → take n (drop i b) ≡ take m (drop l b)
       part n m i l e f = ap₂ (λ (n i : ℕ). take n (drop i b)) e f
 
--- the numbers that come before the table's, which have no second number and leave the words
-module _ (b w : List ℕ) where
+-- the numbers that come before the table's, which have no second number
+module _ (b : List ℕ) where
   alone : (n : ℕ) → n ≡ restoreCode b → eqb n 43 ≡ false → eqb n 44 ≡ false → 0 ≡ restoreSecond b
   unfolding restoreSecond
   alone n e f g = rw (← e, f, g)
 
-  pub too-short : length b < 40 → (41 ≡ restoreCode b) × ((0 ≡ restoreSecond b) × (w ≡ checkedWords b w))
-  unfolding restoreCode checkedWords
-  too-short h = (rw (lt-ltb (length b) 40 h), (alone 41 (rw (lt-ltb (length b) 40 h)) refl refl, rw (lt-ltb (length b) 40 h)))
+  pub too-short : length b < 40 → (41 ≡ restoreCode b) × (0 ≡ restoreSecond b)
+  unfolding restoreCode
+  too-short h = let e : 41 ≡ restoreCode b = rw (lt-ltb (length b) 40 h) in (e, alone 41 e refl refl)
 
-  pub too-long : 40 ≤ length b → 29844 < length b → (41 ≡ restoreCode b) × ((0 ≡ restoreSecond b) × (w ≡ checkedWords b w))
-  unfolding restoreCode checkedWords
-  too-long g h =
-      (rw (le-ltb (length b) 40 g, lt-ltb 29844 (length b) h), (alone 41 (rw (le-ltb (length b) 40 g, lt-ltb 29844 (length b) h)) refl refl, rw (le-ltb (length b) 40 g, lt-ltb 29844 (length b) h)))
+  pub too-long : 40 ≤ length b → 29844 < length b → (41 ≡ restoreCode b) × (0 ≡ restoreSecond b)
+  unfolding restoreCode
+  too-long g h = let e : 41 ≡ restoreCode b = rw (le-ltb (length b) 40 g, lt-ltb 29844 (length b) h) in (e, alone 41 e refl refl)
 
-  pub not-laid : 40 ≤ length b → length b ≤ 29844 → endsAt (length b) (bodiesOf 5 b) ≡ false → (42 ≡ restoreCode b) × ((0 ≡ restoreSecond b) × (w ≡ checkedWords b w))
-  unfolding restoreCode checkedWords
-  not-laid g h e =
-      (rw (le-ltb (length b) 40 g, le-ltb 29844 (length b) h, e), (alone 42 (rw (le-ltb (length b) 40 g, le-ltb 29844 (length b) h, e)) refl refl, rw (le-ltb (length b) 40 g, le-ltb 29844 (length b) h, e)))
+  pub not-laid : 40 ≤ length b → length b ≤ 29844 → endsAt (length b) (bodiesOf 5 b) ≡ false → (42 ≡ restoreCode b) × (0 ≡ restoreSecond b)
+  unfolding restoreCode
+  not-laid g h e = let q : 42 ≡ restoreCode b = rw (le-ltb (length b) 40 g, le-ltb 29844 (length b) h, e) in (q, alone 42 q refl refl)
 
 -- taking up the record b into lent bytes
 module _ (b lent : List ℕ) where
@@ -234,8 +228,8 @@ module _ (b lent : List ℕ) where
 
     pub take-short : length lent < length b → (61 ≡ takeCode b (length lent)) × ((0 ≡ restoreSecond b) × (lent ≡ takeBytes b lent))
     unfolding takeBytes
-    take-short h = (rw (room, lt-ltb _ _ h), (alone b [] 0 (sym z) refl refl, rw (room, lt-ltb _ _ h)))
+    take-short h = (rw (room, lt-ltb _ _ h), (alone b 0 (sym z) refl refl, rw (room, lt-ltb _ _ h)))
 
     pub take-fits : length b ≤ length lent → (0 ≡ takeCode b (length lent)) × ((0 ≡ restoreSecond b) × (over b lent ≡ takeBytes b lent))
     unfolding takeBytes
-    take-fits h = (rw (room, le-ltb _ _ h), (alone b [] 0 (sym z) refl refl, rw (room, le-ltb _ _ h)))
+    take-fits h = (rw (room, le-ltb _ _ h), (alone b 0 (sym z) refl refl, rw (room, le-ltb _ _ h)))

@@ -7,25 +7,12 @@ use judging::judge;
 use words::wide;
 ghost use mathlib.Core.Path.{_≡_};
 ghost use Prim.Native.Nat.{_≤_};
-ghost use lib.ListN.{length};
+ghost use lib.ListN.{length, replicate};
 ghost use Rattle.words.specs.Lists.{over};
-ghost use Rattle.net.specs.Held.{afterLoad};
-ghost use Rattle.replay.specs.Record.{tableIn};
 ghost use Rattle.checkpoint.specs.Restore.{restoreCode, restoreSecond};
 ghost use Rattle.checkpoint.specs.Calls.{saveCode, saveBytes};
 ghost use Rattle.checkpoint.specs.Answers.{restoreAnswerCode, restoreAnswerSecond, savedCode};
-ghost use Rattle.checkpoint.specs.Take.{Framed, Opened, checkedWords, takeCode, takeBytes};
-
-fn words_of(t: [u32; 1684])
-    ensures { λ _. ⌜ length t ≡ 1684 ⌝ }
-{}
-
-// Lent words are as many as their type says: this does nothing, and is called for what it ensures.
-fn count_words(t: &[u32; 1684])
-    ensures { λ _. ⌜ length (now (t .entry)) ≡ 1684 ⌝ }
-{
-    words_of(*t);
-}
+ghost use Rattle.checkpoint.specs.Take.{Framed, Opened, takeCode, takeBytes};
 
 // 44 to 47, of a record whose table is loaded.
 fn check_bodies(rec: &[u8], t: &[u32; 1684]) -> RestoreAnswer
@@ -43,24 +30,25 @@ fn check_bodies(rec: &[u8], t: &[u32; 1684]) -> RestoreAnswer
 // 43 to 47, of a record whose contents are laid out.
 fn check_table(rec: &[u8], t: &mut [u32; 1684]) -> RestoreAnswer
     requires { ⌜ Framed (now rec) ⌝ }
+    requires { ⌜ now t ≡ replicate 1684 0 ⌝ }
     ensures { λ r. ⌜ restoreAnswerCode r ≡ restoreCode (now (rec .entry)) ⌝ }
     ensures { λ r. ⌜ restoreAnswerSecond r ≡ restoreSecond (now (rec .entry)) ⌝ }
-    ensures { λ _. ⌜ now (t .exit) ≡ afterLoad (tableIn (now (rec .entry))) (now (t .entry)) ⌝ }
+    ensures { λ _. ⌜ (restoreCode (now (rec .entry)) ≡ 0 → Opened (now (rec .entry)) (now (t .exit))) ⌝ }
 {
-    count_words(t);
     let end = 40 + wide(words::word_at(rec, 4));
-    let n = net::number(loader::load(&rec[40..end], t));
+    let n = net::number(loader::load_fresh(&rec[40..end], t));
     if n != 0 {
         return RestoreAnswer::Table(n);
     }
     check_bodies(rec, t)
 }
 
-// Checks a record, any bytes. The words t are work space; where the record is taken, they hold its net.
+// Checks a record, any bytes. The words t, all zero, are work space; where the record is taken, they hold its net.
 pub fn check(rec: &[u8], t: &mut [u32; 1684]) -> RestoreAnswer
+    requires { ⌜ now t ≡ replicate 1684 0 ⌝ }
     ensures { λ r. ⌜ restoreAnswerCode r ≡ restoreCode (now (rec .entry)) ⌝ }
     ensures { λ r. ⌜ restoreAnswerSecond r ≡ restoreSecond (now (rec .entry)) ⌝ }
-    ensures { λ _. ⌜ now (t .exit) ≡ checkedWords (now (rec .entry)) (now (t .entry)) ⌝ }
+    ensures { λ _. ⌜ (restoreCode (now (rec .entry)) ≡ 0 → Opened (now (rec .entry)) (now (t .exit))) ⌝ }
 {
     if rec.len() < 40 {
         return RestoreAnswer::Length;

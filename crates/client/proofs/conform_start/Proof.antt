@@ -8,8 +8,8 @@ use borrow.Author.Needs.{needs}
 use Rattle.client.proofs.conform_start.Statement.{statement}
 use Rattle.client.proofs.conform_start.Tie as tie
 
-load-requires : tie.Need-load-requires
-load-requires c κs = search needs
+load-fresh-requires : tie.Need-load-fresh-requires
+load-fresh-requires c κs = search needs
 
 number-requires : tie.Need-number-requires
 number-requires c κs = search needs
@@ -19,12 +19,13 @@ pack-requires c κs = search needs
 
 returns : tie.Need-returns
 returns c = let a = c .before .before .before .before .before .before .before .before .args in
-    let e = c .before .before .number .ensures ∙ c .before .before .before .load .ensures .0 in
+    let e = c .before .before .number .ensures ∙ c .before .before .before .load-fresh .ensures .0 in
     table-stops (a .table .now) (a .objects .now) (a .trail .now) (λ z. c .before .if1 .taken (e ∙ z)) _ _ e (c .pack .ensures)
 
 begin-requires : tie.Need-begin-requires
-begin-requires c κs = let k = c .before .before .before .before .load in
-    loaded-tabled _ _ (length-replicate {A = ℕ} 1684 0) (sym (c .before .before .before .number .ensures ∙ k .ensures .0) ∙ c .before .before .if1 .left) _ (k .ensures .1)
+begin-requires c κs = let k = c .before .before .before .before .load-fresh in
+    let z = sym (c .before .before .before .number .ensures ∙ k .ensures .0) ∙ c .before .before .if1 .left in
+    loaded-tabled _ _ (length-replicate {A = ℕ} 1684 0) z _ (k .ensures .1 z)
 
 same-length : tie.Need-same-length
 same-length c = search needs
@@ -36,7 +37,7 @@ pub conform-start-spec : {M : Type 1} → statement M
 conform-start-spec =
     tie.close
     (tie.spec
-    load-requires
+    load-fresh-requires
     number-requires
     pack-requires
     returns

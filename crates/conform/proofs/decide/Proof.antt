@@ -1,5 +1,7 @@
 -- A table that is not refused is loaded. Assumes nothing.
-use mathlib.Core.Path.{_≡_, sym, _∙_}
+use Prim.Native.Nat.{ℕ}
+use mathlib.Core.Path.{_≡_, ap, sym, _∙_}
+use lib.ListN.{length, length-replicate}
 use Rattle.net.specs.Answer.{codeOf}
 use Rattle.net.proofs.HeldLaws.{loaded-tabled}
 use Rattle.conform.proofs.Texts.{load-refused}
@@ -7,8 +9,8 @@ use borrow.Author.Needs.{needs}
 use Rattle.conform.proofs.decide.Statement.{statement}
 use Rattle.conform.proofs.decide.Tie as tie
 
-load-requires : tie.Need-load-requires
-load-requires c κs = search needs
+load-fresh-requires : tie.Need-load-fresh-requires
+load-fresh-requires c κs = search needs
 
 number-requires : tie.Need-number-requires
 number-requires c κs = search needs
@@ -16,14 +18,15 @@ number-requires c κs = search needs
 returns : tie.Need-returns
 returns c =
     let s = c .before .before .before .before .before .before in
-    (load-refused (s .args .table .now) (c .before .number .result) (s .args .rec .now) (c .before .number .ensures ∙ c .before .before .load .ensures .0) (c .if1 .taken), tt)
+    (load-refused (s .args .table .now) (c .before .number .result) (s .args .rec .now) (c .before .number .ensures ∙ c .before .before .load-fresh .ensures .0) (c .if1 .taken), tt)
 
 read-trail-requires : tie.Need-read-trail-requires
 read-trail-requires c κs =
     let s = c .before .before .before .before .before .before .before .before in
-    let l = c .before .before .before .before .load in
+    let l = c .before .before .before .before .load-fresh in
     let z : codeOf (l .result) ≡ 0 = sym (c .before .before .before .number .ensures) ∙ c .before .before .if1 .left in
-    (loaded-tabled (s .args .table .now) (s .args .t .now) (sym (s .pre .0)) (sym (l .ensures .0) ∙ z) (l .last .1 .0) (l .ensures .1), s .pre .1)
+    let y = sym (l .ensures .0) ∙ z in
+    (loaded-tabled (s .args .table .now) (s .args .t .now) (ap length (s .pre .0) ∙ length-replicate {A = ℕ} 1684 0) y (l .last .1 .0) (l .ensures .1 y), s .pre .1)
 
 same-length : tie.Need-same-length
 same-length c = search needs
@@ -34,4 +37,4 @@ returns-2 c = search needs
 pub decide-spec : {M : Type 1} → statement M
 decide-spec =
     tie.close
-    (tie.spec load-requires number-requires returns read-trail-requires same-length returns-2)
+    (tie.spec load-fresh-requires number-requires returns read-trail-requires same-length returns-2)

@@ -2,7 +2,7 @@
 use mathlib.Core.Path.{_≡_, _∙_}
 use Rattle.words.specs.Refusals.{first}
 use Rattle.net.specs.Table.{shapeTests}
-use Rattle.loader.proofs.LoadLaws.{shape-refused, refused-words}
+use Rattle.loader.proofs.LoadLaws.{shape-refused}
 use borrow.Author.Needs.{needs}
 use Rattle.loader.proofs.load_code.Statement.{statement}
 use Rattle.loader.proofs.load_code.Tie as tie
@@ -14,7 +14,7 @@ returns : tie.Need-returns
 returns c =
     let b = c .before .before .before .args .s .now in
     let n : first (shapeTests b) ≡ 0 → ⊥ = λ e. c .if1 .taken (c .before .refuse-shape .ensures ∙ e) in
-    (c .before .refuse-shape .ensures ∙ shape-refused b n, refused-words b _ (λ e. n (shape-refused b n ∙ e)))
+    (c .before .refuse-shape .ensures ∙ shape-refused b n, λ z. absurd (n (shape-refused b n ∙ z)))
 
 load-bodies-requires : tie.Need-load-bodies-requires
 load-bodies-requires c κs = search needs

@@ -1,8 +1,9 @@
 -- The first test that holds gives its answer. Assumes nothing.
 use mathlib.Core.Path.{sym, _∙_}
+use native.Mathlib.Omega.{arith}
 use borrow.Author.Tests.{not-true, not-false}
 use Rattle.checkpoint.specs.Take.{Framed}
-use Rattle.resuming.proofs.Opening.{framed-words, too-short, too-long, not-laid}
+use Rattle.resuming.proofs.Opening.{too-short, too-long, not-laid}
 use borrow.Author.Needs.{needs}
 use Rattle.resuming.proofs.check.Statement.{statement}
 use Rattle.resuming.proofs.check.Tie as tie
@@ -11,25 +12,24 @@ framed : (c : tie.Else3) → Framed (c .before .before .before .before .before .
 framed c = record { size-ge = c .before .before .before .if1 .left; size-le = c .before .before .if2 .left; laid = sym (c .before .laid-out .ensures) ∙ not-false _ (c .if3 .left) }
 
 returns : tie.Need-returns
-returns c = let a = c .before .before .args in too-short (a .rec .now) (a .t .now) (c .if1 .taken)
+returns c = let r = too-short _ (c .if1 .taken) in (r .0, (r .1, λ z. absurd (omega (arith, r .0, z))))
 
 returns-2 : tie.Need-returns-2
-returns-2 c = let a = c .before .before .before .args in too-long (a .rec .now) (a .t .now) (c .before .if1 .left) (c .if2 .taken)
+returns-2 c = let r = too-long _ (c .before .if1 .left) (c .if2 .taken) in (r .0, (r .1, λ z. absurd (omega (arith, r .0, z))))
 
 laid-out-requires : tie.Need-laid-out-requires
 laid-out-requires c κs = search needs
 
 returns-3 : tie.Need-returns-3
-returns-3 c = let a = c .before .before .before .before .before .args in not-laid (a .rec .now) (a .t .now) (c .before .before .before .if1 .left) (c .before .before .if2 .left) (sym (c .before .laid-out .ensures) ∙ not-true _ (c .if3 .taken))
+returns-3 c =
+    let r = not-laid _ (c .before .before .before .if1 .left) (c .before .before .if2 .left) (sym (c .before .laid-out .ensures) ∙ not-true _ (c .if3 .taken)) in
+    (r .0, (r .1, λ z. absurd (omega (arith, r .0, z))))
 
 check-table-requires : tie.Need-check-table-requires
-check-table-requires c κs = framed (c .before)
+check-table-requires c κs = (framed (c .before), c .before .before .before .before .before .before .pre)
 
 returns-4 : tie.Need-returns-4
-returns-4 c =
-    let a = c .before .before .before .before .before .before .before .args in
-    let e = c .check-table .ensures in
-    (e .0, (e .1 .0, e .1 .1 ∙ framed-words (a .rec .now) (framed (c .before .before)) (a .t .now)))
+returns-4 c = search needs
 
 pub check-spec : {M : Type 1} → statement M
 check-spec =

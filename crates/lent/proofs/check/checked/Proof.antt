@@ -22,9 +22,9 @@ pack-requires c κs = search needs
 returns : tie.Need-returns
 returns c = let a = c .before .before .before .before .before .before .args in
     let k = c .before .before .before .check in
-    checked-by (a .trail .now) (a .t .now) _ (c .pack .result)
+    checked-by (a .trail .now) _ (c .pack .result)
     (c .pack .ensures ∙ ap₂ packed (c .before .before .number .ensures ∙ k .ensures .0) (c .before .second .ensures ∙ k .ensures .1 .0))
-    (k .ensures .1 .1) (c .before .before .before .before .before .before .pre) (λ i. omega (arith, c .before .before .before .before .before .shared-slice-known .given i))
+    (k .ensures .1 .1) (λ i. omega (arith, c .before .before .before .before .before .shared-slice-known .given i))
 
 pub checked-spec : {M : Type 1} → statement M
 checked-spec =

@@ -1,24 +1,25 @@
--- What is left to store after a activities, whose arcs are `from`. Assumes nothing.
+-- What is left to store after a activities, whose arcs are `from`; the words that are read stay. Assumes nothing.
 use Prim.Native.Nat.{ℕ, _+_, _*_, _-_, _≤_, _<_}
 use native.Mathlib.Omega.{arith}
 use mathlib.Core.Path.{_≡_, refl, sym, _∙_}
-use lib.ListN.{getD, drop}
+use lib.ListN.{getD, take, drop}
 use borrow.Author.Needs.{needs}
 use Rattle.words.specs.Lists.{pairUp, parts, total}
 use Rattle.net.specs.Held.{netIn, countsIn, arcsIn, indexRows}
-use Rattle.loader.proofs.Indexed.{rows-more, rows-end}
+use Rattle.loader.proofs.Indexed.{rows-more, rows-end, Same, same-start, same-row, same-arcs, same-net, same-ruled}
 use Rattle.net.proofs.Search.{left-turn}
 use Rattle.net.proofs.Views.{counts-length, count-at}
 use Rattle.loader.proofs.index.index_arcs.Statement.{statement}
 use Rattle.loader.proofs.index.index_arcs.Tie as tie
 
 abbrev Inv-loop : tie.InvT-loop
-Inv-loop w t₀ n from₀ a₀ t from a =
-    (a ≤ n) × (from + total (λ (n : ℕ). n) (drop a (countsIn w)) ≡ getD w 3 0)
-    × (indexRows (netIn w .kindOf) (1172 + 8 * a) (parts (drop a (countsIn w)) (drop from (pairUp (arcsIn w)))) t ≡ indexRows (netIn w .kindOf) 1172 (parts (countsIn w) (pairUp (arcsIn w))) t₀)
+Inv-loop t₀ n from₀ a₀ t from a =
+    (a ≤ n) × (from + total (λ (n : ℕ). n) (drop a (countsIn t₀)) ≡ getD t₀ 3 0)
+    × (indexRows (netIn t₀ .kindOf) (1172 + 8 * a) (parts (drop a (countsIn t₀)) (drop from (pairUp (arcsIn t₀)))) t ≡ indexRows (netIn t₀ .kindOf) 1172 (parts (countsIn t₀) (pairUp (arcsIn t₀))) t₀)
+    × Same t t₀
 
 abbrev μ-loop : tie.MeasureT-loop
-μ-loop w t₀ n from₀ a₀ t from a = n - a
+μ-loop t₀ n from₀ a₀ t from a = n - a
 
 element-copy-out-wide : tie.Need-element-copy-out-wide Inv-loop μ-loop
 element-copy-out-wide c = search needs
@@ -27,17 +28,20 @@ wide-requires : tie.Need-wide-requires Inv-loop μ-loop
 wide-requires c κs = search needs
 
 -- an activity of the net, and its number of arcs
-act-in : (c : tie.In-loop Inv-loop μ-loop) → c .before .loop .a < getD (c .before .before .before .before .args .w .now) 2 0
+act-in : (c : tie.In-loop Inv-loop μ-loop) → c .before .loop .a < getD (c .before .before .before .before .args .t .now) 2 0
 act-in c = omega (arith, c .before .before .wide .ensures, c .loop-test .taken)
 
-size-is : (c : tie.After-wide2 Inv-loop μ-loop) → c .wide2 .result ≡ getD (countsIn (c .before .before .before .before .before .before .args .w .now)) (c .before .before .before .loop .a) 0
-size-is c = c .wide2 .ensures ∙ sym (count-at _ (c .before .before .before .before .before .before .pre .sized) _ (act-in (c .before .before)))
+size-is : (c : tie.After-wide2 Inv-loop μ-loop) → c .wide2 .result ≡ getD (countsIn (c .before .before .before .before .before .before .args .t .now)) (c .before .before .before .loop .a) 0
+size-is c =
+    let h = act-in (c .before .before) in
+    let s = c .before .before .before .before .before .before in
+    c .wide2 .ensures ∙ c .before .before .before .loop .inv .3 .word _ (omega (arith, h, s .pre .sized .acts)) ∙ sym (count-at _ (s .pre .sized) _ h)
 
-left-is : (c : tie.After-wide2 Inv-loop μ-loop) → total (λ (n : ℕ). n) (drop (c .before .before .before .loop .a) (countsIn (c .before .before .before .before .before .before .args .w .now))) ≡ c .wide2 .result + total (λ (n : ℕ). n) (drop (c .before .before .before .loop .a + 1) (countsIn (c .before .before .before .before .before .before .args .w .now)))
-left-is c = rw (size-is c) (left-turn (countsIn (c .before .before .before .before .before .before .args .w .now)) (c .before .before .before .loop .a) (omega (arith, counts-length _ (c .before .before .before .before .before .before .pre .sized), act-in (c .before .before))))
+left-is : (c : tie.After-wide2 Inv-loop μ-loop) → total (λ (n : ℕ). n) (drop (c .before .before .before .loop .a) (countsIn (c .before .before .before .before .before .before .args .t .now))) ≡ c .wide2 .result + total (λ (n : ℕ). n) (drop (c .before .before .before .loop .a + 1) (countsIn (c .before .before .before .before .before .before .args .t .now)))
+left-is c = rw (size-is c) (left-turn (countsIn (c .before .before .before .before .before .before .args .t .now)) (c .before .before .before .loop .a) (omega (arith, counts-length _ (c .before .before .before .before .before .before .pre .sized), act-in (c .before .before))))
 
 loop-holds : tie.Need-loop-holds Inv-loop μ-loop
-loop-holds c = (omega arith, omega (arith, c .before .before .pre .sum), refl)
+loop-holds c = (omega arith, omega (arith, c .before .before .pre .sum), refl, same-start _)
 
 add-wide : tie.Need-add-wide Inv-loop μ-loop
 add-wide c = omega (arith, act-in c, c .before .before .before .before .pre .sized .acts)
@@ -58,7 +62,11 @@ add-index-row : tie.Need-add-index-row Inv-loop μ-loop
 add-index-row c = omega (arith, act-in (c .before .before .before), c .before .before .before .before .before .before .before .pre .sized .acts)
 
 index-row-requires : tie.Need-index-row-requires Inv-loop μ-loop
-index-row-requires c κs = (c .before .before .before .before .before .before .before .pre, (omega (arith, left-is (c .before), c .before .before .before .before .loop .inv .1), omega (arith, act-in (c .before .before .before), c .before .before .before .before .before .before .before .pre .sized .acts)))
+index-row-requires c κs =
+    let l = c .before .before .before .before .loop in
+    let s = c .before .before .before .before .before .before .before in
+    let h = act-in (c .before .before .before) in
+    (same-ruled _ _ (l .inv .3) (s .pre), (omega (arith, left-is (c .before), l .inv .1, l .inv .3 .word 3 (omega arith)), omega arith, omega (arith, h, s .pre .sized .acts)))
 
 add-from : tie.Need-add-from Inv-loop μ-loop
 add-from c = omega (arith, left-is (c .before .before), c .before .before .before .before .before .loop .inv .1, c .before .before .before .before .before .before .before .before .pre .arcs-few)
@@ -77,8 +85,9 @@ loop-again c =
     let e : 1172 + 8 * (l .a + 1) ≡ 1172 + 8 * l .a + 8 = omega arith in (
       omega arith,
       omega (arith, left-is d, l .inv .1),
-      rw (e, c .index-row .ensures, size-is d)
+      rw (e, c .index-row .ensures, same-net _ _ (l .inv .3) (s .pre), same-arcs _ _ (l .inv .3) (s .pre), size-is d)
           (rows-more _ _ _ (l .a) (l .from) (1172 + 8 * l .a) (l .t) (omega (arith, counts-length _ (s .pre .sized), act-in (d .before .before))) ∙ l .inv .2),
+      rw (c .index-row .ensures) (same-row (netIn (l .t) .kindOf) (1172 + 8 * l .a) (take (d .wide2 .result) (drop (l .from) (pairUp (arcsIn (l .t))))) _ _ (omega arith) (l .inv .3)),
     )
 
 returns : tie.Need-returns Inv-loop μ-loop

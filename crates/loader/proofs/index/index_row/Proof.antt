@@ -1,4 +1,4 @@
--- What is left to store after i arcs. Assumes nothing.
+-- What is left to store after i arcs; the words that are read stay. Assumes nothing.
 use Prim.Native.Nat.{ℕ, _+_, _*_, _-_, _≤_, _<_}
 use native.Mathlib.Omega.{arith}
 use mathlib.Core.Path.{_≡_, refl, sym, ap, _∙_}
@@ -7,47 +7,58 @@ use lib.Seq.{getD-take, getD-drop}
 use borrow.Author.Needs.{needs}
 use Rattle.net.proofs.Views.{kind-at, arcs-length, arc-at}
 use Rattle.words.specs.Lists.{pairUp}
+use Rattle.net.specs.Net.{Net}
 use Rattle.net.specs.Held.{netIn, arcsIn, indexRow}
-use Rattle.loader.proofs.Indexed.{row-more, row-end}
+use Rattle.net.specs.Ruled.{Ruled}
+use Rattle.loader.proofs.Indexed.{row-more, row-end, Same, same-start, same-set, same-arcs, same-net, same-ruled}
 use Rattle.net.proofs.Stores.{left-at, cut-short}
 use Rattle.routes.proofs.RuledWords.{kind-in, arc-inp, arc-out}
 use Rattle.loader.proofs.index.index_row.Statement.{statement}
 use Rattle.loader.proofs.index.index_row.Tie as tie
 
 abbrev Inv-loop : tie.InvT-loop
-Inv-loop w from n t₀ base i₀ t i =
-    (i ≤ n) × (indexRow (netIn w .kindOf) base (drop i (take n (drop from (pairUp (arcsIn w))))) t ≡ indexRow (netIn w .kindOf) base (take n (drop from (pairUp (arcsIn w)))) t₀)
+Inv-loop t₀ from n base i₀ t i =
+    (i ≤ n) × (indexRow (netIn t₀ .kindOf) base (drop i (take n (drop from (pairUp (arcsIn t₀))))) t ≡ indexRow (netIn t₀ .kindOf) base (take n (drop from (pairUp (arcsIn t₀)))) t₀) × Same t t₀
 
 abbrev μ-loop : tie.MeasureT-loop
-μ-loop w from n t₀ base i₀ t i = n - i
+μ-loop t₀ from n base i₀ t i = n - i
+
+-- what the words at hand still hold, and that the arc at hand is one of theirs
+ruled-now : (c : tie.In-loop Inv-loop μ-loop) → Ruled (c .before .loop .t)
+ruled-now c = same-ruled _ _ (c .before .loop .inv .2) (c .before .before .pre .0)
+
+arc-there : (c : tie.In-loop Inv-loop μ-loop) → c .before .before .args .from + c .before .loop .i < getD (c .before .loop .t) 3 0
+arc-there c = omega (arith, c .before .before .pre .1 .0, c .loop-test .taken, c .before .loop .inv .2 .word 3 (omega arith))
 
 -- the places and the kind of the arc at hand
-inp-small : (c : tie.After-p Inv-loop μ-loop) → getD (c .before .before .before .args .w .now) (148 + 2 * (c .before .before .before .args .from + c .before .before .loop .i)) 0 < 64
-inp-small c =
-    let s = c .before .before .before in
-    omega (arith, arc-inp (s .args .w .now) (s .pre .0) (s .args .from + c .before .before .loop .i) (omega (arith, s .pre .1 .0, c .before .loop-test .taken)), s .pre .0 .sized .places)
+inp-small : (c : tie.After-p Inv-loop μ-loop) → getD (c .before .before .loop .t) (148 + 2 * (c .before .before .before .args .from + c .before .before .loop .i)) 0 < 64
+inp-small c = let R = ruled-now (c .before) in omega (arith, arc-inp _ R _ (arc-there (c .before)), R .sized .places)
 
-out-small : (c : tie.After-p Inv-loop μ-loop) → getD (c .before .before .before .args .w .now) (149 + 2 * (c .before .before .before .args .from + c .before .before .loop .i)) 0 < 64
-out-small c =
-    let s = c .before .before .before in
-    omega (arith, arc-out (s .args .w .now) (s .pre .0) (s .args .from + c .before .before .loop .i) (omega (arith, s .pre .1 .0, c .before .loop-test .taken)), s .pre .0 .sized .places)
+out-small : (c : tie.After-p Inv-loop μ-loop) → getD (c .before .before .loop .t) (149 + 2 * (c .before .before .before .args .from + c .before .before .loop .i)) 0 < 64
+out-small c = let R = ruled-now (c .before) in omega (arith, arc-out _ R _ (arc-there (c .before)), R .sized .places)
 
-kind-is : (c : tie.After-wide2 Inv-loop μ-loop) → c .wide2 .result ≡ netIn (c .before .before .before .before .before .before .before .args .w .now) .kindOf (getD (c .before .before .before .before .before .before .before .args .w .now) (148 + 2 * (c .before .before .before .before .before .before .before .args .from + c .before .before .before .before .before .before .loop .i)) 0)
+kind-now : (c : tie.After-wide2 Inv-loop μ-loop) → c .wide2 .result ≡ netIn (c .before .before .before .before .before .before .loop .t) .kindOf (getD (c .before .before .before .before .before .before .loop .t) (148 + 2 * (c .before .before .before .before .before .before .before .args .from + c .before .before .before .before .before .before .loop .i)) 0)
+kind-now c =
+    let d = c .before .before .before .before .before in
+    let R = ruled-now d in
+    c .wide2 .ensures ∙ ap (λ (x : ℕ). getD (d .before .loop .t) (20 + x) 0) (c .before .before .wide .ensures)
+    ∙ sym (kind-at _ (R .sized) _ (arc-inp _ R _ (arc-there d)))
+
+-- which is its kind in the net that they held at first
+kind-is : (c : tie.After-wide2 Inv-loop μ-loop) → c .wide2 .result ≡ netIn (c .before .before .before .before .before .before .before .args .t .now) .kindOf (getD (c .before .before .before .before .before .before .loop .t) (148 + 2 * (c .before .before .before .before .before .before .before .args .from + c .before .before .before .before .before .before .loop .i)) 0)
 kind-is c =
-    let s = c .before .before .before .before .before .before .before in
-    let j : ℕ = s .args .from + c .before .before .before .before .before .before .loop .i in
-    c .wide2 .ensures ∙ ap (λ (x : ℕ). getD (s .args .w .now) (20 + x) 0) (c .before .before .wide .ensures)
-    ∙ sym (kind-at (s .args .w .now) (s .pre .0 .sized) (getD (s .args .w .now) (148 + 2 * j) 0) (arc-inp (s .args .w .now) (s .pre .0) j (omega (arith, s .pre .1 .0, c .before .before .before .before .before .loop-test .taken))))
+    let d = c .before .before .before .before .before in
+    kind-now c ∙ ap (λ (N : Net). N .kindOf (getD (d .before .loop .t) (148 + 2 * (d .before .before .args .from + d .before .loop .i)) 0)) (same-net _ _ (d .before .loop .inv .2) (d .before .before .pre .0))
 
 kind-small : (c : tie.After-wide2 Inv-loop μ-loop) → c .wide2 .result < 8
 kind-small c =
-    let s = c .before .before .before .before .before .before .before in
-    let j : ℕ = s .args .from + c .before .before .before .before .before .before .loop .i in
-    let h = arc-inp (s .args .w .now) (s .pre .0) j (omega (arith, s .pre .1 .0, c .before .before .before .before .before .loop-test .taken)) in
-    omega (arith, kind-is c, kind-at (s .args .w .now) (s .pre .0 .sized) _ h, kind-in (s .args .w .now) (s .pre .0) _ h, s .pre .0 .sized .kinds)
+    let d = c .before .before .before .before .before in
+    let R = ruled-now d in
+    let h = arc-inp _ R _ (arc-there d) in
+    omega (arith, kind-now c, kind-at _ (R .sized) _ h, kind-in _ R _ h, R .sized .kinds)
 
 loop-holds : tie.Need-loop-holds Inv-loop μ-loop
-loop-holds c = (omega arith, refl)
+loop-holds c = (omega arith, refl, same-start _)
 
 add-j : tie.Need-add-j Inv-loop μ-loop
 add-j c = omega (arith, c .before .before .pre .0 .arcs-few)
@@ -101,13 +112,13 @@ add-t-2 : tie.Need-add-t-2 Inv-loop μ-loop
 add-t-2 c = omega (arith, inp-small (c .before .before .before .before), out-small (c .before .before .before .before))
 
 add-t-3 : tie.Need-add-t-3 Inv-loop μ-loop
-add-t-3 c = omega (arith, kind-small c, c .before .before .before .before .before .before .before .pre .1 .1)
+add-t-3 c = omega (arith, kind-small c, c .before .before .before .before .before .before .before .pre .1 .2)
 
 mul-t-2 : tie.Need-mul-t-2 Inv-loop μ-loop
-mul-t-2 c = omega (arith, kind-small c, c .before .before .before .before .before .before .before .pre .1 .1)
+mul-t-2 c = omega (arith, kind-small c, c .before .before .before .before .before .before .before .pre .1 .2)
 
 element-write-t : tie.Need-element-write-t Inv-loop μ-loop
-element-write-t c = omega (arith, kind-small c, c .before .before .before .before .before .before .before .pre .1 .1)
+element-write-t c = omega (arith, kind-small c, c .before .before .before .before .before .before .before .pre .1 .2)
 
 add-i : tie.Need-add-i Inv-loop μ-loop
 add-i c = search needs
@@ -119,18 +130,20 @@ loop-again : tie.Need-loop-again Inv-loop μ-loop
 loop-again c =
     let l = c .before .before .before .before .before .before .loop in
     let s = c .before .before .before .before .before .before .before in
+    let d = c .before .before .before .before .before in
+    let R = ruled-now d in
+    let S = l .inv .2 in
     let a = s .args in
-    let few = s .pre .0 .arcs-few in
-    let sized = s .pre .0 .sized in
-    let lt = c .before .before .before .before .before .loop-test .taken in
+    let lt = d .loop-test .taken in
     let k = kind-is c in (
       omega arith,
       rw k
-          (row-more _ (a .base) (take (a .n) (drop (a .from) (pairUp (arcsIn (a .w .now))))) (l .i) (l .t) _
-          (left-at (pairUp (arcsIn (a .w .now))) (a .from) (a .n) (l .i) (omega (arith, s .pre .1 .0, arcs-length (a .w .now) sized few)) lt)
-          (getD-take (a .n) (drop (a .from) (pairUp (arcsIn (a .w .now)))) (l .i) (0, 0) lt ∙ getD-drop (a .from) (pairUp (arcsIn (a .w .now))) (l .i) (0, 0)
-          ∙ arc-at (a .w .now) sized few (a .from + l .i) (omega (arith, s .pre .1 .0)))
+          (row-more _ (a .base) (take (a .n) (drop (a .from) (pairUp (arcsIn (a .t .now))))) (l .i) (l .t) _
+          (left-at (pairUp (arcsIn (a .t .now))) (a .from) (a .n) (l .i) (omega (arith, s .pre .1 .0, arcs-length (a .t .now) (s .pre .0 .sized) (s .pre .0 .arcs-few))) lt)
+          (getD-take (a .n) (drop (a .from) (pairUp (arcsIn (a .t .now)))) (l .i) (0, 0) lt ∙ getD-drop (a .from) (pairUp (arcsIn (a .t .now))) (l .i) (0, 0)
+          ∙ rw (← same-arcs _ _ S (s .pre .0)) (arc-at (l .t) (R .sized) (R .arcs-few) (a .from + l .i) (arc-there d)))
           ∙ l .inv .1),
+      same-set _ _ _ _ (omega (arith, s .pre .1 .1)) S,
     )
 
 returns : tie.Need-returns Inv-loop μ-loop
