@@ -118,10 +118,17 @@ pub data Ask : Type 0 where
 abbrev pub start : List ℕ → Plain
 start ks = record { kinds = ks; events = []; closed = 0 }
 
+-- the run p with one part changed: the accepted events, the closed flag
+abbrev pub withAccepted : Plain → List Event → Plain
+withAccepted p x = record { kinds = p .kinds; events = x; closed = p .closed }
+
+abbrev pub withFlag : Plain → ℕ → Plain
+withFlag p x = record { kinds = p .kinds; events = p .events; closed = x }
+
 -- what an accepted event or close does
 abbrev pub accept : Plain → Ask → Plain
-accept p (event e) = record { kinds = p .kinds; events = p .events ++ e ∷ []; closed = p .closed }
-accept p close = record { kinds = p .kinds; events = p .events; closed = 1 }
+accept p (event e) = withAccepted p (p .events ++ e ∷ [])
+accept p close = withFlag p 1
 
 module _ (N : Net) where
   -- the first refusal that applies; 0 where none does
