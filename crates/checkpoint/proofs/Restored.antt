@@ -16,9 +16,9 @@ use Rattle.net.specs.Net.{Net, Loaded}
 use Rattle.net.specs.Table.{netOf, loadCode}
 use Rattle.net.proofs.Promise.{table-size}
 use Rattle.replay.specs.Plain.{Ask}
-use Rattle.replay.specs.State.{askS}
+use Rattle.replay.specs.State.{askS, stateFrom}
 use Rattle.replay.specs.Sound.{Sound}
-use Rattle.replay.specs.Record.{counts, countsSize, countsAt, contents, encode, wordsFrom, tableIn, stateFrom, stateIn, Intact}
+use Rattle.replay.specs.Record.{counts, countsSize, countsAt, contents, encode, wordsFrom, tableIn, stateIn, Intact}
 use Rattle.replay.specs.Calls.{netAt, stateAt, askBytes}
 use Rattle.replay.proofs.Encode.{Laid, counts-size, encode-le, intact-laid, intact-encode, table-encode, state-encode}
 use Rattle.replay.proofs.Calls.{ask-encode}

@@ -13,7 +13,8 @@ use Rattle.words.specs.Words.{word, wordsAt, bytesOf, bodiesFrom, endsAt}
 use Rattle.words.specs.declared.Bodies.the-variants.{Gap}
 use Rattle.words.proofs.Lists.{clash}
 use Rattle.words.proofs.Words.{length-words, words-take, words-read, bytes-of-words}
-use Rattle.replay.specs.Record.{evens, odds, interleave, wordsFrom}
+use Rattle.replay.specs.State.{evens, odds}
+use Rattle.replay.specs.Record.{interleave, wordsFrom}
 
 -- n bodies from byte `at` on, by the contents from byte i on, end at byte e
 abbrev pub Ends : List ℕ → ℕ → ℕ → ℕ → ℕ → Type 0

@@ -1,12 +1,13 @@
 -- What document 01 asks of an event's object list in bytes: 24, in its place, unless it has one row for each arc.
 use Prim.Native.Nat.{ℕ, _%_}
-use mathlib.Core.Bool.{Bool, true, not}
+use mathlib.Core.Bool.{Bool, true}
 use mathlib.Core.Path.{_≡_}
-use mathlib.Core.List.{List, [], _∷_}
+use mathlib.Core.List.{List, [], _∷_, _++_}
 use lib.ListN.{length}
-use lib.Dec.{eqb, leb}
+use lib.Dec.{leb}
 use Rattle.words.specs.Refusals.{first}
 use Rattle.words.specs.Words.{wordsOf}
+use Rattle.replay.specs.Plain.{trailTests}
 use Rattle.replay.specs.Calls.{netAt, stateAt}
 use Rattle.events.specs.Answers.{askEvent}
 use Rattle.answers.specs.Answers.{packed}
@@ -16,7 +17,7 @@ use Rattle.client.specs.Client.{askAnswer, askLeaves}
 
 -- 21 to 24, for an event of activity a with a list that cannot have one row for each arc
 abbrev pub unevenTests : List ℕ → ℕ → List (Bool × ℕ)
-unevenTests b a = (not (eqb (stateAt b .closed) 0), 21) ∷ (leb 1000000 (stateAt b .events), 22) ∷ (leb (netAt b .acts) a, 23) ∷ (true, 24) ∷ []
+unevenTests b a = trailTests (stateAt b .closed) (stateAt b .events) ++ (leb (netAt b .acts) a, 23) ∷ (true, 24) ∷ []
 
 -- The trail b, activity a and the list s: a list of whole rows, however long, is the objects that it names; any other gives
 -- the first of 21 to 24 and changes nothing.

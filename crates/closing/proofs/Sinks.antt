@@ -1,75 +1,30 @@
 -- The close, object by object: what is left to do, and the closed record. Assumes nothing.
-use Prim.Native.Nat.{ℕ, suc, _+_, _-_, _*_, _≤_, _<_}
-use mathlib.Core.Bool.{Bool, true, false, not}
+use Prim.Native.Nat.{ℕ, suc, _+_, _-_, _≤_, _<_}
 use mathlib.Core.Path.{_≡_, refl, ap, sym, _∙_, subst}
-use mathlib.Core.List.{List, [], _∷_, map}
+use mathlib.Core.List.{List, _∷_, map}
 use native.Mathlib.Omega.{arith}
 use native.Mathlib.Numerals.{add-one}
 use lib.ListN.{length, getD, set}
-use lib.Dec.{eqb}
-use Rattle.words.specs.Lists.{pick, keep, upto}
+use Rattle.words.specs.Lists.{upto}
 use Rattle.net.specs.Net.{Net}
 use Rattle.net.specs.Held.{netIn}
-use Rattle.replay.specs.Plain.{Hop, jumped, hops, walked, ending}
-use Rattle.replay.specs.State.{State, bump, tally, hopIndex, afterClose}
+use Rattle.replay.specs.Plain.{Leg, ending, endings}
+use Rattle.replay.specs.State.{State, withClosed, withClosing, hopIndex, leapsOf, closeJumps, afterLegs, afterClose}
 use Rattle.replay.specs.Record.{recordWords, tableIn}
 use Rattle.replay.specs.Calls.{stateAt}
 use Rattle.replay.specs.Offsets.{layoutOf}
 use Rattle.replay.specs.Ready.{Ready}
 use Rattle.moves.specs.Moves.{raise, jumpsTo, goWords}
-use Rattle.closing.specs.Sunk.{sunkState}
 use Rattle.replay.specs.declared.layout.Layout.{Layout}
 use Rattle.replay.proofs.Tally.{length-tally}
-use Rattle.replay.proofs.RecordLaws.{Placed, placed-same, withClosing, record-size, put-closed, ready-loaded, ready-sound}
+use Rattle.replay.proofs.RecordLaws.{Placed, placed-same, record-size, put-closed, ready-loaded, ready-sound}
 use Rattle.moves.proofs.Layouts.{placed-at, kind-of-in}
-use Rattle.moves.proofs.Walk.{Summing, legState, leg-kinds, length-walked, sum-turn, close-counter}
+use Rattle.moves.proofs.Walk.{length-walked, close-counter}
+use Rattle.moves.proofs.Legs.{LegsLeft, legs-turn, legs-end}
 
 -- the objects `os` are left to take from their sinks, and s jumps to add; then the state is `goal`
-pub record Sinking (N : Net) (table : List ℕ) (l : Layout) (b : ℕ) (ks os : List ℕ) (goal : State) (s : ℕ) (w : List ℕ) : Type 0 where
-  pub state : State
-  pub sum : Summing N table l b (l .counts + 2) s state w
-  pub same : state .kinds ≡ ks
-  pub left : sunkState N state os ≡ goal
-
--- the first object of the close
-module _ (N : Net) (d : State) where
-  pub sunk-first : (o : ℕ) (os : List ℕ)
-      → sunkState N (legState N (λ (e : State). withClosing e (suc (e .closing))) d o (N .sink (getD (d .kinds) o 0)) (N .sink (getD (d .kinds) o 0))) os ≡ sunkState N d (o ∷ os)
-  sunk-first o os = go (eqb from to)
-    where
-      from : ℕ
-      from = getD (d .places) o 0
-
-      to : ℕ
-      to = N .sink (getD (d .kinds) o 0)
-
-      h : Hop
-      h = record { act = N .acts; from = from; to = to }
-
-      rest : List Hop
-      rest = keep jumped (hops (set (d .places) o to) (map (ending N (d .kinds)) os))
-
-      by : Bool → State
-      by c = record {
-        kinds = d .kinds;
-        places = walked (set (d .places) o to) (map (ending N (d .kinds)) os);
-        closed = d .closed;
-        events = d .events;
-        closing = d .closing + length (pick (not c) (h ∷ rest) rest);
-        fired = d .fired;
-        jumps = d .jumps;
-        pairs = tally (d .pairs) (map (hopIndex N) (pick (not c) (h ∷ rest) rest));
-      }
-
-      one : Bool → State
-      one c = pick c d (withClosing (record { kinds = d .kinds; places = d .places; closed = d .closed; events = d .events; closing = d .closing; fired = d .fired; jumps = d .jumps; pairs = bump (d .pairs) (from * N .places + to) }) (suc (d .closing)))
-
-      more : suc (d .closing) + length rest ≡ d .closing + suc (length rest)
-      more = omega arith
-
-      go : (c : Bool) → sunkState N (record { kinds = one c .kinds; places = set (one c .places) o to; closed = one c .closed; events = one c .events; closing = one c .closing; fired = one c .fired; jumps = one c .jumps; pairs = one c .pairs }) os ≡ by c
-      go true = refl
-      go false = ap {B = State} (λ (n : ℕ). record { kinds = d .kinds; places = walked (set (d .places) o to) (map (ending N (d .kinds)) os); closed = d .closed; events = d .events; closing = n; fired = d .fired; jumps = d .jumps; pairs = tally (d .pairs) (map (hopIndex N) (h ∷ rest)) }) more
+abbrev pub Sinking : Net → List ℕ → Layout → ℕ → List ℕ → List ℕ → State → ℕ → List ℕ → Type 0
+Sinking N table l b ks os goal s w = LegsLeft N table l b (l .counts + 2) closeJumps ks (map (ending N ks) os) goal s w
 
 upto-first : (n o : ℕ) → o < n → upto (n - o) o ≡ o ∷ upto (n - (o + 1)) (o + 1)
 upto-first n o h = let e : n - o ≡ suc (n - (o + 1)) = omega arith in ap (λ (j : ℕ). upto j o) e ∙ ap (λ (i : ℕ). o ∷ upto (n - (o + 1)) i) (sym (add-one o))
@@ -78,23 +33,12 @@ module _ (N : Net) (table : List ℕ) (l : Layout) (b : ℕ) (ks : List ℕ) (go
   pub sink-turn : (c k : ℕ) → o < n → k ≡ getD ks o 0 → o < l .objects → N .sink k < l .places → b + 1 ≤ c
       → Sinking N table l c ks (upto (n - (o + 1)) (o + 1)) goal (s + jumpsTo l o (N .sink k) w) (goWords l o (N .sink k) (N .sink k) w)
   sink-turn c k h q ho hs more =
-      let d = T .state in
-      let kd : k ≡ getD (d .kinds) o 0 = q ∙ ap (λ (x : List ℕ). getD x o 0) (sym (T .same)) in
-      record {
-        state = legState N (λ (e : State). withClosing e (suc (e .closing))) d o (N .sink k) (N .sink k);
-        sum = sum-turn N table l b c (l .counts + 2) s _ d w o (N .sink k) (N .sink k) (T .sum) (close-counter N table l) ho hs hs more;
-        same = leg-kinds N table l _ _ (close-counter N table l) d o (N .sink k) (N .sink k) ∙ T .same;
-        left = subst (λ (k : ℕ). sunkState N (legState N (λ (e : State). withClosing e (suc (e .closing))) d o (N .sink k) (N .sink k)) (upto (n - (o + 1)) (o + 1)) ≡ goal) (sym kd)
-            (sunk-first N d o (upto (n - (o + 1)) (o + 1)) ∙ ap (sunkState N d) (sym (upto-first n o h)) ∙ T .left);
-      }
-
-  nothing : (d : State) → sunkState N d [] ≡ d
-  nothing d = let z : d .closing + 0 ≡ d .closing = omega arith in
-      ap {B = State} (λ (n : ℕ). record { kinds = d .kinds; places = d .places; closed = d .closed; events = d .events; closing = n; fired = d .fired; jumps = d .jumps; pairs = d .pairs }) z
+      rw q (legs-turn N table l (l .counts + 2) (N .acts) closeJumps (close-counter N table l) b ks goal s w c (ending N ks o) (map (ending N ks) (upto (n - (o + 1)) (o + 1)))
+      (subst (λ (r : List ℕ). Sinking N table l b ks r goal s w) (upto-first n o h) T) refl ho (rw q at hs) (rw q at hs) more)
 
   pub sink-end : n ≤ o → raise w (l .counts + 2) s ≡ recordWords table goal
   sink-end h = let z : n - o ≡ 0 = omega arith in
-      T .sum .walk .words ∙ ap (recordWords table) (sym (nothing (T .state)) ∙ sym (ap (λ (j : ℕ). sunkState N (T .state) (upto j o)) z) ∙ T .left)
+      legs-end N table l (l .counts + 2) (N .acts) closeJumps (close-counter N table l) b ks goal s w (subst (λ (j : ℕ). Sinking N table l b ks (upto j o) goal s w) z T)
 
 -- an object's sink is a known place
 pub sink-of-in : (w b : List ℕ) (l : Layout) (R : Ready w b) (e : l ≡ layoutOf (netIn w) b)
@@ -106,19 +50,19 @@ module _ (w b : List ℕ) (l : Layout) (R : Ready w b) (e : l ≡ layoutOf (netI
   abbrev d : State
   d = stateAt b
 
-  abbrev all : List ℕ
-  all = upto (length (d .kinds)) 0
+  abbrev ls : List Leg
+  ls = endings (netIn w) (d .kinds)
 
-  placed : Placed (netIn w) (tableIn b) l (sunkState (netIn w) d all)
-  placed = placed-same (netIn w) (tableIn b) l d (sunkState (netIn w) d all) (placed-at w b l R e) refl (length-walked (map (ending (netIn w) (d .kinds)) all) (d .places)) refl refl
-      (length-tally (map (hopIndex (netIn w)) (keep jumped (hops (d .places) (map (ending (netIn w) (d .kinds)) all)))) (d .pairs))
+  abbrev m : State
+  m = afterLegs (netIn w) closeJumps d ls
 
-  pub can-close : l .counts < length (recordWords (tableIn b) (sunkState (netIn w) d all))
-  can-close = omega (arith, record-size (netIn w) (tableIn b) l (sunkState (netIn w) d all) placed, placed .jumps-at)
+  placed : Placed (netIn w) (tableIn b) l m
+  placed = placed-same (netIn w) (tableIn b) l d m (placed-at w b l R e) refl (length-walked ls (d .places)) refl refl (length-tally (map (hopIndex (netIn w)) (leapsOf d ls)) (d .pairs))
 
-  pub closed-numbers : d .closed ≡ 0 → set (recordWords (tableIn b) (sunkState (netIn w) d all)) (l .counts) 1 ≡ recordWords (tableIn b) (afterClose (netIn w) d)
+  pub can-close : l .counts < length (recordWords (tableIn b) m)
+  can-close = omega (arith, record-size (netIn w) (tableIn b) l m placed, placed .jumps-at)
+
+  pub closed-numbers : d .closed ≡ 0 → set (recordWords (tableIn b) m) (l .counts) 1 ≡ recordWords (tableIn b) (afterClose (netIn w) d)
   closed-numbers c =
-      let hs = keep jumped (hops (d .places) (map (ending (netIn w) (d .kinds)) all)) in
-      let z : d .closing + length hs ≡ length hs = omega (arith, ready-sound w b R .closing-open c) in
-      put-closed (netIn w) (tableIn b) l (sunkState (netIn w) d all) placed 1
-      ∙ ap (λ (n : ℕ). recordWords (tableIn b) (record { kinds = d .kinds; places = walked (d .places) (map (ending (netIn w) (d .kinds)) all); closed = 1; events = d .events; closing = n; fired = d .fired; jumps = d .jumps; pairs = tally (d .pairs) (map (hopIndex (netIn w)) hs) })) z
+      put-closed (netIn w) (tableIn b) l m placed 1
+      ∙ ap (λ (n : ℕ). recordWords (tableIn b) (withClosed (afterLegs (netIn w) closeJumps (withClosing d n) ls) 1)) (ready-sound w b R .closing-open c)

@@ -6,16 +6,15 @@ use moves::move_object;
 use replay::layout::Layout;
 use replay::layout::read_layout;
 ghost use mathlib.Core.Path.{_≡_};
-ghost use lib.ListN.{length};
-ghost use Rattle.words.specs.Lists.{upto};
 ghost use Rattle.words.specs.Words.{wordsOf};
 ghost use Rattle.net.specs.Held.{netIn};
+ghost use Rattle.replay.specs.Plain.{endings};
+ghost use Rattle.replay.specs.State.{closeJumps, afterLegs};
 ghost use Rattle.replay.specs.Record.{tableIn, recordWords};
 ghost use Rattle.replay.specs.Calls.{stateAt, askCode, askBytes};
 ghost use Rattle.replay.specs.Offsets.{layoutOf};
 ghost use Rattle.replay.specs.Ready.{Ready};
 ghost use Rattle.closing.specs.Answers.{closeCode, askClose};
-ghost use Rattle.closing.specs.Sunk.{sunkState};
 
 // The answer to a close. `closeCode` gives document 01's number.
 pub enum CloseAnswer {
@@ -28,7 +27,7 @@ pub enum CloseAnswer {
 fn sink_objects(rec: &mut [u8], t: &[u32; 1684], lay: Layout)
     requires { ⌜ Ready (now t) (now rec) ⌝ }
     requires { ⌜ lay ≡ layoutOf (netIn (now t)) (now rec) ⌝ }
-    ensures { λ _. ⌜ wordsOf (now (rec .exit)) ≡ recordWords (tableIn (now (rec .entry))) (sunkState (netIn (now (t .entry))) (stateAt (now (rec .entry))) (upto (length (stateAt (now (rec .entry)) .kinds)) 0)) ⌝ }
+    ensures { λ _. ⌜ wordsOf (now (rec .exit)) ≡ recordWords (tableIn (now (rec .entry))) (afterLegs (netIn (now (t .entry))) closeJumps (stateAt (now (rec .entry))) (endings (netIn (now (t .entry))) (stateAt (now (rec .entry)) .kinds))) ⌝ }
 {
     let mut o = 0;
     let mut jumps = 0u32;

@@ -4,22 +4,20 @@ use mathlib.Core.Path.{_≡_, refl, ap, _∙_}
 use mathlib.Core.List.{List, map}
 use native.Mathlib.Omega.{arith}
 use lib.ListN.{getD, set}
-use Rattle.words.specs.Lists.{keep}
 use Rattle.net.specs.Held.{netIn}
-use Rattle.replay.specs.Plain.{Hop, jumped, hops, leg}
-use Rattle.replay.specs.State.{State, bump, hopIndex, afterEvent, answerS}
+use Rattle.replay.specs.Plain.{Leg, Hop, legs}
+use Rattle.replay.specs.State.{State, withEvents, bump, hopIndex, leapsOf, actJumps, afterLegs, afterEvent, answerS}
 use Rattle.replay.specs.Record.{recordWords, tableIn}
 use Rattle.replay.specs.Calls.{stateAt}
 use Rattle.replay.specs.Offsets.{layoutOf}
 use Rattle.replay.specs.Ready.{Ready}
 use Rattle.moves.specs.Moves.{CanAdd}
-use Rattle.events.specs.Moved.{movedState}
 use Rattle.events.specs.Answers.{askEvent, Moving}
 use Rattle.replay.specs.declared.layout.Layout.{Layout}
 use Rattle.replay.proofs.Accepted.{accepted}
 use Rattle.replay.proofs.Tally.{length-tally}
 use Rattle.replay.proofs.Encode.{fired-le}
-use Rattle.replay.proofs.RecordLaws.{Placed, placed-same, withEvents, record-size, get-events, get-fired, put-events, put-fired, ready-loaded, ready-sound}
+use Rattle.replay.proofs.RecordLaws.{Placed, placed-same, record-size, get-events, get-fired, put-events, put-fired, ready-loaded, ready-sound}
 use Rattle.moves.proofs.Layouts.{placed-at}
 use Rattle.moves.proofs.Walk.{length-walked}
 
@@ -27,13 +25,16 @@ module _ (w b : List ℕ) (l : Layout) (a : ℕ) (os : List ℕ) (M : Moving w b
   abbrev d : State
   d = stateAt b
 
+  abbrev ls : List Leg
+  ls = legs (netIn w) (d .kinds) (record { act = a; objs = os })
+
   abbrev m : State
-  m = movedState (netIn w) d a os
+  m = afterLegs (netIn w) actJumps d ls
 
   placed : Placed (netIn w) (tableIn b) l m
-  placed = placed-same (netIn w) (tableIn b) l d m (placed-at w b l (M .counted .ready) (M .counted .lay)) refl (length-walked (map (leg (netIn w) (d .kinds) a) os) (d .places)) refl
-      (length-tally (map (λ (h : Hop). h .act) (keep jumped (hops (d .places) (map (leg (netIn w) (d .kinds) a) os)))) (d .jumps))
-      (length-tally (map (hopIndex (netIn w)) (keep jumped (hops (d .places) (map (leg (netIn w) (d .kinds) a) os)))) (d .pairs))
+  placed = placed-same (netIn w) (tableIn b) l d m (placed-at w b l (M .counted .ready) (M .counted .lay)) refl (length-walked ls (d .places)) refl
+      (length-tally (map (λ (h : Hop). h .act) (leapsOf d ls)) (d .jumps))
+      (length-tally (map (hopIndex (netIn w)) (leapsOf d ls)) (d .pairs))
 
   placed-events : Placed (netIn w) (tableIn b) l (withEvents m (suc (d .events)))
   placed-events = placed-same (netIn w) (tableIn b) l m (withEvents m (suc (d .events))) placed refl refl refl refl refl

@@ -11,14 +11,13 @@ ghost use mathlib.Core.Path.{_≡_};
 ghost use Rattle.words.specs.Refusals.{first};
 ghost use Rattle.words.specs.Words.{wordsOf};
 ghost use Rattle.net.specs.Held.{netIn};
-ghost use Rattle.replay.specs.Plain.{objectTests};
-ghost use Rattle.replay.specs.State.{answerS, afterEvent};
+ghost use Rattle.replay.specs.Plain.{legs, objectTests};
+ghost use Rattle.replay.specs.State.{actJumps, afterLegs, afterEvent, answerS};
 ghost use Rattle.replay.specs.Record.{tableIn, recordWords};
 ghost use Rattle.replay.specs.Calls.{stateAt, askCode, askBytes};
 ghost use Rattle.replay.specs.Offsets.{layoutOf};
 ghost use Rattle.replay.specs.Ready.{Ready};
 ghost use Rattle.events.specs.Answers.{eventCode, askEvent, ObjectCode, Counted, Moving};
-ghost use Rattle.events.specs.Moved.{movedState};
 
 // The answer to an event. `eventCode` gives document 01's number.
 pub enum EventAnswer {
@@ -86,7 +85,7 @@ fn refuse(rec: &[u8], t: &[u32; 1684], lay: Layout, act: usize, objs: &[u8]) -> 
 // Every object of the event jumps where it has to, and is moved; the activity's jumps are added once, behind the last object.
 fn step_objects(rec: &mut [u8], t: &[u32; 1684], lay: Layout, act: usize, objs: &[u8])
     requires { ⌜ Moving (now t) (now rec) lay act (wordsOf (now objs)) ⌝ }
-    ensures { λ _. ⌜ wordsOf (now (rec .exit)) ≡ recordWords (tableIn (now (rec .entry))) (movedState (netIn (now (t .entry))) (stateAt (now (rec .entry))) act (wordsOf (now (objs .entry)))) ⌝ }
+    ensures { λ _. ⌜ wordsOf (now (rec .exit)) ≡ recordWords (tableIn (now (rec .entry))) (afterLegs (netIn (now (t .entry))) actJumps (stateAt (now (rec .entry))) (legs (netIn (now (t .entry))) (stateAt (now (rec .entry)) .kinds) (record { act = act; objs = wordsOf (now (objs .entry)) }))) ⌝ }
 {
     let n = objs.len() / 4;
     let mut done = 0;

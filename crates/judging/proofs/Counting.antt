@@ -15,7 +15,8 @@ use Rattle.words.proofs.Sums.{sumTo-same}
 use Rattle.words.proofs.Words.{length-words}
 use Rattle.net.specs.Net.{Net}
 use Rattle.replay.specs.Plain.{registerCode}
-use Rattle.replay.specs.Record.{countsSize, evens, odds}
+use Rattle.replay.specs.State.{evens, odds}
+use Rattle.replay.specs.Record.{countsSize}
 use Rattle.checkpoint.specs.Restore.{tests46}
 use Rattle.judging.specs.Judge.{hit, bodyState, Counted}
 use Rattle.judging.proofs.Totals.{same-false, fired-at, jumps-at}

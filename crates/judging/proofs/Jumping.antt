@@ -13,8 +13,7 @@ use Rattle.words.specs.Words.{wordsOf}
 use Rattle.words.proofs.Lists.{anyTo-none, anyTo-false, is-eq, not-eqb, both-false, both-then}
 use Rattle.words.proofs.Sums.{sumTo-same}
 use Rattle.net.specs.Net.{Net}
-use Rattle.replay.specs.State.{inputs, sunkOn, storedConsumed}
-use Rattle.replay.specs.Record.{odds}
+use Rattle.replay.specs.State.{inputs, sunkOn, storedConsumed, odds}
 use Rattle.checkpoint.specs.Restore.{apart, tests47}
 use Rattle.judging.specs.Judge.{hit, bodyState, pairIn, foreignIn, barredIn}
 use Rattle.judging.proofs.Totals.{alone, same-false, sum-none, none-sum, any-sum, sum-columns, fired-at, jumps-at}

@@ -11,7 +11,7 @@ use lib.Dec.{eqb}
 use Rattle.words.specs.Lists.{pick, anyTo, sumTo}
 use Rattle.words.proofs.Lists.{is-eq, not-eqb, anyTo-none, anyTo-false}
 use Rattle.words.proofs.Sums.{sumTo-same, sumTo-zero, sumTo-add, term-le}
-use Rattle.replay.specs.Record.{evens, odds}
+use Rattle.replay.specs.State.{evens, odds}
 use Rattle.replay.proofs.Interleave.{evens-at, odds-at}
 
 -- two tests that fail together

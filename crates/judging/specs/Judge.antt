@@ -10,8 +10,8 @@ use Rattle.words.specs.Refusals.{first}
 use Rattle.words.specs.Words.{word, wordsOf}
 use Rattle.net.specs.Net.{Net, takes, inputOf}
 use Rattle.replay.specs.Plain.{registerCode}
-use Rattle.replay.specs.State.{State}
-use Rattle.replay.specs.Record.{countsSize, stateFrom}
+use Rattle.replay.specs.State.{State, stateFrom}
+use Rattle.replay.specs.Record.{countsSize}
 use Rattle.checkpoint.specs.Restore.{beginsClosed, second44, bodyTests}
 
 -- one of the tests holds

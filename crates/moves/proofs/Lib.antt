@@ -1,3 +1,4 @@
 pub mod Begins
 pub mod Layouts
+pub mod Legs
 pub mod Walk

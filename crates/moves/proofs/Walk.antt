@@ -12,12 +12,13 @@ use lib.Seq.{getD-set-same, getD-set-other, set-getD, set-set, set-comm}
 use lib.Dec.{eqb}
 use Rattle.words.specs.Lists.{pick}
 use Rattle.net.specs.Net.{Net}
-use Rattle.replay.specs.Plain.{Leg, walked}
-use Rattle.replay.specs.State.{State, bump}
+use Rattle.replay.specs.Plain.{Leg, Hop, walked}
+use Rattle.replay.specs.State.{State, withPlaces, withClosing, withJumps, withPairs, bump, hopIndex, actJumps, closeJumps}
 use Rattle.replay.specs.Record.{recordWords}
+use Rattle.replay.specs.Claims.{judged}
 use Rattle.moves.specs.Moves.{placeAt, pairAt, raise, jumpsTo, goWords, CanAdd, CanMove}
 use Rattle.replay.specs.declared.layout.Layout.{Layout}
-use Rattle.replay.proofs.RecordLaws.{Placed, placed-same, withPlaces, withPairs, withJumps, withClosing, record-size, record-few, get-kind, get-place, get-pair, get-jumps, get-closing, put-place, put-pair, put-jumps, put-closing}
+use Rattle.replay.proofs.RecordLaws.{Placed, placed-same, record-size, record-few, get-kind, get-place, get-pair, get-jumps, get-closing, put-place, put-pair, put-jumps, put-closing}
 
 -- a jump from p to q is counted at the pair and at number `own`; where p is q there is none
 unfoldable jumpWords : Layout → ℕ → ℕ → ℕ → List ℕ → List ℕ
@@ -207,92 +208,111 @@ module _ (N : Net) (table : List ℕ) (l : Layout) (b own s : ℕ) (d : State) (
     move-sum : (out : ℕ) → moveWords l own o inp out (raise w own s) ≡ raise (goWords l o inp out w) own (s + jumpsTo l o inp w)
     move-sum out = move-later l own o inp out s w (omega (arith, size, S .high)) (λ e. omega (arith, under, S .low)) (λ e. omega (arith, S .high))
 
--- where a jump is counted beside its pair: what it does to the state
-pub record Counter (N : Net) (table : List ℕ) (l : Layout) (own : ℕ) (up : State → State) : Type 0 where
-  pub adds : (e : State) → Placed N table l e → bump (recordWords table e) own ≡ recordWords table (up e)
-  pub keeps : (e : State) → Placed N table l e → Placed N table l (up e)
-  pub kinds : (e : State) → up e .kinds ≡ e .kinds
+-- how jumps of activity a are counted beside their pairs, by `own`: one adds 1 to number `at`, they can be counted one by one,
+-- and neither kinds nor places nor pairs have a part in it
+pub record Counter (N : Net) (table : List ℕ) (l : Layout) (at a : ℕ) (own : State → List Hop → State) : Type 0 where
+  pub adds : (e : State) (h : Hop) → h .act ≡ a → Placed N table l e → bump (recordWords table e) at ≡ recordWords table (own e (h ∷ []))
+  pub keeps : (e : State) (h : Hop) → Placed N table l e → Placed N table l (own e (h ∷ []))
+  pub kinds : (e : State) (h : Hop) → own e (h ∷ []) .kinds ≡ e .kinds
+  pub places : (e : State) (h : Hop) → own e (h ∷ []) .places ≡ e .places
+  pub pairs : (e : State) (h : Hop) → own e (h ∷ []) .pairs ≡ e .pairs
+  pub none : (e : State) → own e [] ≡ e
+  pub next : (e : State) (ps js : List ℕ) (h : Hop) (hs : List Hop) → own (withPairs (withPlaces (own e (h ∷ [])) ps) js) hs ≡ own (withPairs (withPlaces e ps) js) (h ∷ hs)
 
--- the state after a jump from p to q, where they differ, and after an object is sought on q and left on `out`
-abbrev pub jumpState : Net → (State → State) → State → ℕ → ℕ → State
-jumpState N up d p q = pick (eqb p q) d (up (withPairs d (bump (d .pairs) (p * N .places + q))))
-
-abbrev pub legState : Net → (State → State) → State → ℕ → ℕ → ℕ → State
-legState N up d o q out = withPlaces (jumpState N up d (getD (d .places) o 0) q) (set (jumpState N up d (getD (d .places) o 0) q .places) o out)
-
-module _ (N : Net) (table : List ℕ) (l : Layout) (own : ℕ) (up : State → State) (C : Counter N table l own up) (d : State) (P : Placed N table l d) where
-  with-pair : (i : ℕ) → Placed N table l (withPairs d (bump (d .pairs) i))
-  with-pair i = placed-same N table l d (withPairs d (bump (d .pairs) i)) P refl refl refl refl (length-set (d .pairs) i _)
-
-  jump-placed : (p q : ℕ) → Placed N table l (jumpState N up d p q)
-  jump-placed p q = go (eqb p q)
-    where
-      go : (c : Bool) → Placed N table l (pick c d (up (withPairs d (bump (d .pairs) (p * N .places + q)))))
-      go true = P
-      go false = C .keeps _ (with-pair (p * N .places + q))
-
-  jump-numbers : (p q : ℕ) → jumpWords l own p q (recordWords table d) ≡ recordWords table (jumpState N up d p q)
-  unfolding jumpWords
-  jump-numbers p q = go (eqb p q)
-    where
-      i : ℕ
-      i = p * N .places + q
-
-      pair : bump (recordWords table d) (pairAt l p q) ≡ recordWords table (withPairs d (bump (d .pairs) i))
-      pair = ap (λ (n : ℕ). bump (recordWords table d) (l .jumps + (p * n + q))) (P .places-are)
-          ∙ ap (λ (v : ℕ). set (recordWords table d) (l .jumps + i) (suc v)) (get-pair N table l d P i) ∙ put-pair N table l d P i (suc (getD (d .pairs) i 0))
-
-      go : (c : Bool) → pick c (recordWords table d) (bump (bump (recordWords table d) (pairAt l p q)) own) ≡ recordWords table (pick c d (up (withPairs d (bump (d .pairs) i))))
-      go true = refl
-      go false = ap (λ (v : List ℕ). bump v own) pair ∙ C .adds _ (with-pair i)
-
-  move-numbers : (o q out : ℕ) → o < l .objects → moveWords l own o q out (recordWords table d) ≡ recordWords table (legState N up d o q out)
-  unfolding moveWords
-  move-numbers o q out h =
-      ap (λ (p : ℕ). set (jumpWords l own p q (recordWords table d)) (placeAt l o) out) (get-place N table l d P o h)
-      ∙ ap (λ (v : List ℕ). set v (placeAt l o) out) (jump-numbers (getD (d .places) o 0) q)
-      ∙ put-place N table l (jumpState N up d (getD (d .places) o 0) q) (jump-placed (getD (d .places) o 0) q) o out h
-
-  leg-placed : (o q out : ℕ) → Placed N table l (legState N up d o q out)
-  leg-placed o q out = let J = jump-placed (getD (d .places) o 0) q in
-      placed-same N table l (jumpState N up d (getD (d .places) o 0) q) (legState N up d o q out) J refl (length-set (jumpState N up d (getD (d .places) o 0) q .places) o out) refl refl refl
-
--- the kinds stay
-pub leg-kinds : (N : Net) (table : List ℕ) (l : Layout) (own : ℕ) (up : State → State) → Counter N table l own up → (d : State) (o q out : ℕ) → legState N up d o q out .kinds ≡ d .kinds
-leg-kinds N table l own up C d o q out = go (eqb (getD (d .places) o 0) q)
-  where
-    go : (c : Bool) → pick c d (up (withPairs d (bump (d .pairs) (getD (d .places) o 0 * N .places + q)))) .kinds ≡ d .kinds
-    go true = refl
-    go false = C .kinds _
-
--- a jump of activity a, and a closing jump
+-- an event's jumps, and the close's
 module _ (N : Net) (table : List ℕ) (l : Layout) where
-  pub act-counter : (a : ℕ) → a < N .acts → Counter N table l (l .counts + (4 + 2 * a)) (λ (e : State). withJumps e (bump (e .jumps) a))
-  act-counter a h = record {
-    adds = λ e P. ap (λ (v : ℕ). set (recordWords table e) (l .counts + (4 + 2 * a)) (suc v)) (get-jumps N table l e P a h) ∙ put-jumps N table l e P a (suc (getD (e .jumps) a 0)) h;
-    keeps = λ e P. placed-same N table l e (withJumps e (bump (e .jumps) a)) P refl refl refl (length-set (e .jumps) a _) refl;
-    kinds = λ e. refl;
+  pub act-counter : (a : ℕ) → a < N .acts → Counter N table l (l .counts + (4 + 2 * a)) a actJumps
+  act-counter a i = record {
+    adds = λ e h q P. ap (λ (v : ℕ). set (recordWords table e) (l .counts + (4 + 2 * a)) (suc v)) (get-jumps N table l e P a i) ∙ put-jumps N table l e P a (suc (getD (e .jumps) a 0)) i
+        ∙ ap (λ (c : ℕ). recordWords table (withJumps e (bump (e .jumps) c))) (sym q);
+    keeps = λ e h P. placed-same N table l e (actJumps e (h ∷ [])) P refl refl refl (length-set (e .jumps) (h .act) _) refl;
+    kinds = λ e h. refl;
+    places = λ e h. refl;
+    pairs = λ e h. refl;
+    none = λ e. refl;
+    next = λ e ps js h hs. refl;
   }
 
-  pub close-counter : Counter N table l (l .counts + 2) (λ (e : State). withClosing e (suc (e .closing)))
+  pub close-counter : Counter N table l (l .counts + 2) (N .acts) closeJumps
   close-counter = record {
-    adds = λ e P. ap (λ (v : ℕ). set (recordWords table e) (l .counts + 2) (suc v)) (get-closing N table l e P) ∙ put-closing N table l e P (suc (e .closing));
-    keeps = λ e P. placed-same N table l e (withClosing e (suc (e .closing))) P refl refl refl refl refl;
-    kinds = λ e. refl;
+    adds = λ e h q P. let z : suc (e .closing) ≡ e .closing + 1 = omega arith in
+        ap (λ (v : ℕ). set (recordWords table e) (l .counts + 2) (suc v)) (get-closing N table l e P) ∙ put-closing N table l e P (suc (e .closing)) ∙ ap (λ (n : ℕ). recordWords table (withClosing e n)) z;
+    keeps = λ e h P. placed-same N table l e (closeJumps e (h ∷ [])) P refl refl refl refl refl;
+    kinds = λ e h. refl;
+    places = λ e h. refl;
+    pairs = λ e h. refl;
+    none = λ e. let z : e .closing + 0 ≡ e .closing = omega arith in ap (withClosing e) z;
+    next = λ e ps js h hs. let z : e .closing + 1 + length hs ≡ e .closing + suc (length hs) = omega arith in ap (withClosing (withPairs (withPlaces e ps) js)) z;
   }
+
+-- the state after a hop that jumps or not, and after a leg
+abbrev pub jumpState : Net → (State → List Hop → State) → State → Hop → State
+jumpState N own d h = pick (eqb (h .from) (h .to)) d (own (withPairs d (bump (d .pairs) (hopIndex N h))) (h ∷ []))
+
+abbrev pub legState : Net → (State → List Hop → State) → State → Leg → State
+legState N own d x = let j : State = jumpState N own d (judged (d .places) x) in withPlaces j (set (j .places) (x .obj) (x .out))
+
+module _ (N : Net) (table : List ℕ) (l : Layout) (at a : ℕ) (own : State → List Hop → State) (C : Counter N table l at a own) (d : State) where
+  -- the kinds stay
+  pub leg-kinds : (x : Leg) → legState N own d x .kinds ≡ d .kinds
+  leg-kinds x = go (eqb (getD (d .places) (x .obj) 0) (x .inp))
+    where
+      h : Hop
+      h = judged (d .places) x
+
+      go : (c : Bool) → pick c d (own (withPairs d (bump (d .pairs) (hopIndex N h))) (h ∷ [])) .kinds ≡ d .kinds
+      go true = refl
+      go false = C .kinds _ h
+
+  module _ (P : Placed N table l d) where
+    with-pair : (i : ℕ) → Placed N table l (withPairs d (bump (d .pairs) i))
+    with-pair i = placed-same N table l d (withPairs d (bump (d .pairs) i)) P refl refl refl refl (length-set (d .pairs) i _)
+
+    jump-placed : (h : Hop) → Placed N table l (jumpState N own d h)
+    jump-placed h = go (eqb (h .from) (h .to))
+      where
+        go : (c : Bool) → Placed N table l (pick c d (own (withPairs d (bump (d .pairs) (hopIndex N h))) (h ∷ [])))
+        go true = P
+        go false = C .keeps _ h (with-pair (hopIndex N h))
+
+    jump-numbers : (h : Hop) → h .act ≡ a → jumpWords l at (h .from) (h .to) (recordWords table d) ≡ recordWords table (jumpState N own d h)
+    unfolding jumpWords
+    jump-numbers h q = go (eqb (h .from) (h .to))
+      where
+        i : ℕ
+        i = hopIndex N h
+
+        pair : bump (recordWords table d) (pairAt l (h .from) (h .to)) ≡ recordWords table (withPairs d (bump (d .pairs) i))
+        pair = ap (λ (n : ℕ). bump (recordWords table d) (l .jumps + (h .from * n + h .to))) (P .places-are)
+            ∙ ap (λ (v : ℕ). set (recordWords table d) (l .jumps + i) (suc v)) (get-pair N table l d P i) ∙ put-pair N table l d P i (suc (getD (d .pairs) i 0))
+
+        go : (c : Bool) → pick c (recordWords table d) (bump (bump (recordWords table d) (pairAt l (h .from) (h .to))) at) ≡ recordWords table (pick c d (own (withPairs d (bump (d .pairs) i)) (h ∷ [])))
+        go true = refl
+        go false = ap (λ (v : List ℕ). bump v at) pair ∙ C .adds _ h q (with-pair i)
+
+    move-numbers : (x : Leg) → x .act ≡ a → x .obj < l .objects → moveWords l at (x .obj) (x .inp) (x .out) (recordWords table d) ≡ recordWords table (legState N own d x)
+    unfolding moveWords
+    move-numbers x q k =
+        ap (λ (p : ℕ). set (jumpWords l at p (x .inp) (recordWords table d)) (placeAt l (x .obj)) (x .out)) (get-place N table l d P (x .obj) k)
+        ∙ ap (λ (v : List ℕ). set v (placeAt l (x .obj)) (x .out)) (jump-numbers (judged (d .places) x) q)
+        ∙ put-place N table l (jumpState N own d (judged (d .places) x)) (jump-placed (judged (d .places) x)) (x .obj) (x .out) k
+
+    leg-placed : (x : Leg) → Placed N table l (legState N own d x)
+    leg-placed x = let h = judged (d .places) x in
+        placed-same N table l (jumpState N own d h) (legState N own d x) (jump-placed h) refl (length-set (jumpState N own d h .places) (x .obj) (x .out)) refl refl refl
 
 -- the walk goes on
-pub sum-turn : (N : Net) (table : List ℕ) (l : Layout) (b c own s : ℕ) (up : State → State) (d : State) (w : List ℕ) (o inp out : ℕ) → Summing N table l b own s d w → Counter N table l own up
-    → o < l .objects → inp < l .places → out < l .places → b + 1 ≤ c
-    → Summing N table l c own (s + jumpsTo l o inp w) (legState N up d o inp out) (goWords l o inp out w)
-sum-turn N table l b c own s up d w o inp out S C known there left more =
-    let v = raise w own s in let W = S .walk in
+pub sum-turn : (N : Net) (table : List ℕ) (l : Layout) (b c at a s : ℕ) (own : State → List Hop → State) (d : State) (w : List ℕ) (x : Leg) → Summing N table l b at s d w → Counter N table l at a own
+    → x .act ≡ a → x .obj < l .objects → x .inp < l .places → x .out < l .places → b + 1 ≤ c
+    → Summing N table l c at (s + jumpsTo l (x .obj) (x .inp) w) (legState N own d x) (goWords l (x .obj) (x .inp) (x .out) w)
+sum-turn N table l b c at a s own d w x S C q known there left more =
+    let v = raise w at s in let W = S .walk in
     record {
-      walk = rw (← move-sum N table l b own s d w S o inp known there out) (record {
-        words = ap (λ (v : List ℕ). moveWords l own o inp out v) (W .words) ∙ move-numbers N table l own up C d (W .placed) o inp out known;
-        placed = leg-placed N table l own up C d (W .placed) o inp out;
-        inside = moved-inside N table l b d v W own o inp (S .low) (S .high) known there out left;
-        room = moved-room N table l b d v W own o inp (S .low) (S .high) known there out c more;
+      walk = rw (← move-sum N table l b at s d w S (x .obj) (x .inp) known there (x .out)) (record {
+        words = ap (λ (v : List ℕ). moveWords l at (x .obj) (x .inp) (x .out) v) (W .words) ∙ move-numbers N table l at a own C d (W .placed) x q known;
+        placed = leg-placed N table l at a own C d (W .placed) x;
+        inside = moved-inside N table l b d v W at (x .obj) (x .inp) (S .low) (S .high) known there (x .out) left;
+        room = moved-room N table l b d v W at (x .obj) (x .inp) (S .low) (S .high) known there (x .out) c more;
       });
       low = S .low;
       high = S .high;

@@ -13,7 +13,7 @@ use Rattle.words.specs.Lists.{pick, All, keep, one, total, sumTo}
 use Rattle.words.proofs.Lists.{All-append, All-keep}
 use Rattle.words.proofs.Sums.{total-append, total-map, total-same, total-swap, total-length, sumTo-same, sumTo-at, by-value}
 use Rattle.net.specs.Net.{Net, Arc, Loaded}
-use Rattle.replay.specs.Plain.{Event, Ask, event, close, Plain, Hop, jumped, hops, walked, endings, begins, start, answer, accept, ask, run, moves, stand, lasts, history, positions}
+use Rattle.replay.specs.Plain.{Event, Ask, event, close, Plain, Hop, jumped, hops, walked, endings, begins, start, withFlag, answer, accept, ask, run, moves, stand, lasts, history, positions}
 use Rattle.replay.specs.Counts.{leaps, transfers, consumed, jumpsIn, jumpsOut, pairJumps, fired, jumps}
 use Rattle.replay.specs.State.{stateOf, hopIndex, storedConsumed, storedPair, storedJumpsIn, storedJumpsOut, storedTransfers}
 use Rattle.replay.specs.Sound.{OnKind}
@@ -53,12 +53,12 @@ module _ (N : Net) where
   reached-start ks r = record { register = r; fits = tt; few = omega arith; flag = omega arith }
 
 -- the open and the closed case of a run
-pub by-flag : (Q : Plain → Type 0) (p : Plain) → p .closed ≤ 1 → Q (record { kinds = p .kinds; events = p .events; closed = 0 }) → Q (record { kinds = p .kinds; events = p .events; closed = 1 }) → Q p
+pub by-flag : (Q : Plain → Type 0) (p : Plain) → p .closed ≤ 1 → Q (withFlag p 0) → Q (withFlag p 1) → Q p
 by-flag Q p h a b = go (p .closed) h refl
   where
     go : (c : ℕ) → c ≤ 1 → p .closed ≡ c → Q p
-    go zero l e = subst (λ (z : ℕ). Q (record { kinds = p .kinds; events = p .events; closed = z })) (sym e) a
-    go (suc zero) l e = subst (λ (z : ℕ). Q (record { kinds = p .kinds; events = p .events; closed = z })) (sym e) b
+    go zero l e = subst (λ (z : ℕ). Q (withFlag p z)) (sym e) a
+    go (suc zero) l e = subst (λ (z : ℕ). Q (withFlag p z)) (sym e) b
     go (suc (suc n)) l e = absurd (omega arith)
 
 -- a pair's index tells the pair

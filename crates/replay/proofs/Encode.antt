@@ -12,9 +12,9 @@ use Rattle.words.proofs.Lists.{All-to, All-of}
 use Rattle.words.proofs.Sums.{sumTo-le, sumTo-mul, term-le}
 use Rattle.words.proofs.Words.{words-get, length-words, length-bytes, words-of-bytes-then, words-of-bytes, bytes-of-words, bytes-append}
 use Rattle.net.specs.Net.{Net, Loaded}
-use Rattle.replay.specs.State.{State}
+use Rattle.replay.specs.State.{State, stateFrom, withFired, withJumps}
 use Rattle.replay.specs.Sound.{Sound}
-use Rattle.replay.specs.Record.{counts, countsSize, kindsAt, placesAt, countsAt, pairsAt, recordSize, contents, encode, recordWords, wordsFrom, tableIn, stateFrom, stateIn, Intact}
+use Rattle.replay.specs.Record.{counts, countsSize, kindsAt, placesAt, countsAt, pairsAt, recordSize, contents, encode, recordWords, wordsFrom, tableIn, stateIn, Intact}
 use Rattle.replay.proofs.Interleave.{length-interleave, All-interleave, evens-interleave, odds-interleave}
 
 -- a number of 32 bits
@@ -193,7 +193,7 @@ module _ (N : Net) (L : Loaded N) (table : List ℕ) (d : State) (S : Sound N d)
   table-encode = ap₂ (λ (n i : ℕ). take n (drop i (encode table d))) (laid .table-len) (laid .table-at) ∙ laid .table-is
 
   from-bodies : stateFrom (d .kinds) (d .places) (counts d) (d .pairs) ≡ d
-  from-bodies = ap₂ {C = State} (λ (f j : List ℕ). record { kinds = d .kinds; places = d .places; closed = d .closed; events = d .events; closing = d .closing; fired = f; jumps = j; pairs = d .pairs })
+  from-bodies = ap₂ {C = State} (λ (f j : List ℕ). withJumps (withFired d f) j)
       (evens-interleave (d .fired) (d .jumps) (S .fired-size ∙ sym (S .jumps-size))) (odds-interleave (d .fired) (d .jumps) (S .fired-size ∙ sym (S .jumps-size)))
 
   pub state-encode : stateIn N (encode table d) ≡ d

@@ -5,7 +5,8 @@ use mathlib.Core.List.{List, [], _∷_}
 use native.Mathlib.Omega.{arith}
 use lib.ListN.{length, getD, set}
 use Rattle.words.specs.Lists.{All}
-use Rattle.replay.specs.Record.{interleave, evens, odds}
+use Rattle.replay.specs.State.{evens, odds}
+use Rattle.replay.specs.Record.{interleave}
 
 pub length-interleave : (xs ys : List ℕ) → length xs ≡ length ys → length (interleave xs ys) ≡ 2 * length xs
 length-interleave [] ys e = refl

@@ -14,7 +14,7 @@ use Rattle.words.specs.Lists.{All, has, keep, one, total, upto}
 use Rattle.words.proofs.Lists.{clash, All-map, All-unmap, All-zip, map-at, upto-all}
 use Rattle.words.proofs.Sums.{total-append, total-keep, total-length}
 use Rattle.net.specs.Net.{Net, inputOf}
-use Rattle.replay.specs.Plain.{Event, Plain, Leg, Hop, jumped, hops, walked, leg, legs, ending, endings, course, after, begins, moves, stand}
+use Rattle.replay.specs.Plain.{Event, Plain, withFlag, Leg, Hop, jumped, hops, walked, leg, legs, ending, endings, course, after, begins, moves, stand}
 use Rattle.replay.specs.Counts.{allJumps}
 use Rattle.replay.specs.Permitted.{Leaves, FiringSequence, ended, fired, Permitted}
 use Rattle.replay.specs.Claims.{judged}
@@ -113,5 +113,5 @@ permitted N p T c = (
 )
   where
     same : allJumps N p ≡ leapsFrom N (p .kinds) (begins N (p .kinds)) (p .events)
-    same = subst (λ (z : ℕ). allJumps N (record { kinds = p .kinds; events = p .events; closed = z }) ≡ leapsFrom N (p .kinds) (begins N (p .kinds)) (p .events)) (sym c)
+    same = subst (λ (z : ℕ). allJumps N (withFlag p z) ≡ leapsFrom N (p .kinds) (begins N (p .kinds)) (p .events)) (sym c)
         (leap-count (moves N p ++ hops (stand N p) (endings N (p .kinds))) ∙ total-append (λ (h : Hop). one (jumped h)) (moves N p) (hops (stand N p) (endings N (p .kinds))))

@@ -12,7 +12,7 @@ use Rattle.net.specs.Net.{Net, Loaded}
 use Rattle.net.specs.Held.{netIn}
 use Rattle.net.proofs.HeldLaws.{held-loaded}
 use Rattle.replay.specs.declared.layout.Layout.{Layout}
-use Rattle.replay.specs.State.{State}
+use Rattle.replay.specs.State.{State, withPlaces, withClosed, withEvents, withClosing, withFired, withJumps, withPairs}
 use Rattle.replay.specs.Sound.{Sound}
 use Rattle.replay.specs.Record.{interleave, counts, encode, recordWords, tableIn, stateIn}
 use Rattle.replay.specs.Calls.{netAt, stateAt}
@@ -20,28 +20,6 @@ use Rattle.replay.specs.Offsets.{layoutOf}
 use Rattle.replay.specs.Ready.{Ready}
 use Rattle.replay.proofs.Interleave.{length-interleave, interleave-even, interleave-odd, interleave-set-even, interleave-set-odd}
 use Rattle.replay.proofs.Encode.{Laid, intact-laid, counts-size, words-encode, bytes-encode}
-
--- the state d with one part changed
-abbrev pub withPlaces : State → List ℕ → State
-withPlaces d x = record { kinds = d .kinds; places = x; closed = d .closed; events = d .events; closing = d .closing; fired = d .fired; jumps = d .jumps; pairs = d .pairs }
-
-abbrev pub withClosed : State → ℕ → State
-withClosed d x = record { kinds = d .kinds; places = d .places; closed = x; events = d .events; closing = d .closing; fired = d .fired; jumps = d .jumps; pairs = d .pairs }
-
-abbrev pub withEvents : State → ℕ → State
-withEvents d x = record { kinds = d .kinds; places = d .places; closed = d .closed; events = x; closing = d .closing; fired = d .fired; jumps = d .jumps; pairs = d .pairs }
-
-abbrev pub withClosing : State → ℕ → State
-withClosing d x = record { kinds = d .kinds; places = d .places; closed = d .closed; events = d .events; closing = x; fired = d .fired; jumps = d .jumps; pairs = d .pairs }
-
-abbrev pub withFired : State → List ℕ → State
-withFired d x = record { kinds = d .kinds; places = d .places; closed = d .closed; events = d .events; closing = d .closing; fired = x; jumps = d .jumps; pairs = d .pairs }
-
-abbrev pub withJumps : State → List ℕ → State
-withJumps d x = record { kinds = d .kinds; places = d .places; closed = d .closed; events = d .events; closing = d .closing; fired = d .fired; jumps = x; pairs = d .pairs }
-
-abbrev pub withPairs : State → List ℕ → State
-withPairs d x = record { kinds = d .kinds; places = d .places; closed = d .closed; events = d .events; closing = d .closing; fired = d .fired; jumps = d .jumps; pairs = x }
 
 -- l is the layout of a record of a table and the state d, of the net N: how large the parts are, and what follows what
 pub record Placed (N : Net) (table : List ℕ) (l : Layout) (d : State) : Type 0 where

@@ -2,7 +2,7 @@
 use mathlib.Core.Path.{_≡_, refl}
 use native.Mathlib.Omega.{arith}
 use Rattle.words.specs.Lists.{All}
-use Rattle.replay.specs.Plain.{Event, Plain, refusal}
+use Rattle.replay.specs.Plain.{Event, Plain, refusal, start, withAccepted, withFlag}
 use Rattle.replay.specs.Counts.{allJumps}
 use Rattle.replay.specs.Rows.{M, Row, three, third, fourth, eventsOf, RowsHold, PermittedRows}
 use Rattle.replay.proofs.Accepted.{Fitting, accepted}
@@ -14,7 +14,7 @@ rows-hold = (refl, (refl, (refl, (refl, (refl, (refl, (refl, (refl, tt))))))))
 
 -- a row's run, closed
 abbrev closed : Row → Plain
-closed r = record { kinds = three; events = eventsOf (r .asks); closed = 1 }
+closed r = withFlag (withAccepted (start three) (eventsOf (r .asks))) 1
 
 fits : {e : Event} → refusal M three 0 0 e ≡ 0 → Fitting M three e
 fits {e} z = accepted M three 0 0 e z .fits

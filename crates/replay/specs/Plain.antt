@@ -3,7 +3,7 @@
 use Prim.Native.Nat.{ℕ}
 use mathlib.Core.Bool.{Bool, not}
 use mathlib.Core.List.{List, [], _∷_, _++_, map}
-use lib.ListN.{length, getD, set, drop}
+use lib.ListN.{length, getD, set}
 use lib.Dec.{ltb, leb, eqb}
 use Rattle.words.specs.Lists.{pick, any, twice, upto}
 use Rattle.words.specs.Refusals.{first}
@@ -74,24 +74,32 @@ module _ (N : Net) (ks : List ℕ) where
   after ps [] = ps
   after ps (e ∷ es) = after (walked ps (legs e)) es
 
-  -- the refusals of an event, by the closed flag and the number of accepted events
-  abbrev pub eventTests : ℕ → ℕ → Event → List (Bool × ℕ)
-  eventTests closed events e =
-      (not (eqb closed 0), 21)
-      ∷ (leb 1000000 events, 22)
-      ∷ (leb (N .acts) (e .act), 23)
-      ∷ (not (eqb (length (e .objs)) (length (N .arcs (e .act)))), 24)
-      ∷ (any (λ (o : ℕ). leb (length ks) o) (e .objs), 25)
-      ∷ (any (λ (k : ℕ). not (takes N (e .act) k)) (kindsOf ks (e .objs)), 26)
-      ∷ (twice (kindsOf ks (e .objs)), 27)
-      ∷ []
+-- The refusals of an event, group by group. 21 and 22: by the closed flag and the number of accepted events
+abbrev pub trailTests : ℕ → ℕ → List (Bool × ℕ)
+trailTests closed events = (not (eqb closed 0), 21) ∷ (leb 1000000 events, 22) ∷ []
 
-  abbrev pub refusal : ℕ → ℕ → Event → ℕ
-  refusal closed events e = first (eventTests closed events e)
+-- 23 and 24: by the activity and the number of objects
+abbrev pub activityTests : Net → ℕ → ℕ → List (Bool × ℕ)
+activityTests N a n = (leb (N .acts) a, 23) ∷ (not (eqb n (length (N .arcs a))), 24) ∷ []
 
--- the last three alone, of an activity and objects
+-- 25 and 26, each for any of the objects: by the register `ks`, the activity and the objects
+abbrev pub knownTests : Net → List ℕ → ℕ → List ℕ → List (Bool × ℕ)
+knownTests N ks a os = (any (λ (o : ℕ). leb (length ks) o) os, 25) ∷ (any (λ (k : ℕ). not (takes N a k)) (kindsOf ks os), 26) ∷ []
+
+-- 27: by the register and the objects
+abbrev pub sameKindTests : List ℕ → List ℕ → List (Bool × ℕ)
+sameKindTests ks os = (twice (kindsOf ks os), 27) ∷ []
+
+-- 25 to 27
 abbrev pub objectTests : Net → List ℕ → ℕ → List ℕ → List (Bool × ℕ)
-objectTests N ks a os = drop 4 (eventTests N ks 0 0 (record { act = a; objs = os }))
+objectTests N ks a os = knownTests N ks a os ++ sameKindTests ks os
+
+-- 21 to 27, in the paper's order
+abbrev pub eventTests : Net → List ℕ → ℕ → ℕ → Event → List (Bool × ℕ)
+eventTests N ks closed events e = trailTests closed events ++ (activityTests N (e .act) (length (e .objs)) ++ objectTests N ks (e .act) (e .objs))
+
+abbrev pub refusal : Net → List ℕ → ℕ → ℕ → Event → ℕ
+refusal N ks closed events e = first (eventTests N ks closed events e)
 
 -- the refusal of a close
 abbrev pub closeTests : ℕ → List (Bool × ℕ)
@@ -118,10 +126,17 @@ pub data Ask : Type 0 where
 abbrev pub start : List ℕ → Plain
 start ks = record { kinds = ks; events = []; closed = 0 }
 
+-- the run p with one part changed: the accepted events, the closed flag
+abbrev pub withAccepted : Plain → List Event → Plain
+withAccepted p x = record { kinds = p .kinds; events = x; closed = p .closed }
+
+abbrev pub withFlag : Plain → ℕ → Plain
+withFlag p x = record { kinds = p .kinds; events = p .events; closed = x }
+
 -- what an accepted event or close does
 abbrev pub accept : Plain → Ask → Plain
-accept p (event e) = record { kinds = p .kinds; events = p .events ++ e ∷ []; closed = p .closed }
-accept p close = record { kinds = p .kinds; events = p .events; closed = 1 }
+accept p (event e) = withAccepted p (p .events ++ e ∷ [])
+accept p close = withFlag p 1
 
 module _ (N : Net) where
   -- the first refusal that applies; 0 where none does

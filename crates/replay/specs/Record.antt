@@ -2,27 +2,17 @@
 use Prim.Native.Nat.{ℕ, _+_, _*_, _/_, _≤_}
 use mathlib.Core.Path.{_≡_}
 use mathlib.Core.List.{List, [], _∷_, _++_}
-use lib.ListN.{length, getD, take, drop}
+use lib.ListN.{length, take, drop}
 use Rattle.words.specs.Words.{word, wordsOf, bytesOf}
 use Rattle.net.specs.Net.{Net}
-use Rattle.replay.specs.State.{State}
+use Rattle.replay.specs.State.{State, stateFrom}
 use Rattle.replay.specs.Sound.{Sound}
 
--- two lists by turns, and the numbers with even and with odd index
+-- two lists by turns
 abbrev pub interleave : List ℕ → List ℕ → List ℕ
 interleave [] ys = []
 interleave (x ∷ xs) [] = []
 interleave (x ∷ xs) (y ∷ ys) = x ∷ y ∷ interleave xs ys
-
-abbrev pub evens : List ℕ → List ℕ
-evens [] = []
-evens (x ∷ []) = x ∷ []
-evens (x ∷ y ∷ r) = x ∷ evens r
-
-abbrev pub odds : List ℕ → List ℕ
-odds [] = []
-odds (x ∷ []) = []
-odds (x ∷ y ∷ r) = y ∷ odds r
 
 -- Counts: closed, accepted events, closing jumps, then one row for each activity: FIRED, JUMPS
 abbrev pub counts : State → List ℕ
@@ -68,19 +58,6 @@ wordsFrom b i n = take n (wordsOf (drop i b))
 -- the table's bytes in a record
 unfoldable pub tableIn : List ℕ → List ℕ
 tableIn b = take (word b 4) (drop (word b 0) b)
-
--- a state by the numbers of the four bodies behind the table
-abbrev pub stateFrom : List ℕ → List ℕ → List ℕ → List ℕ → State
-stateFrom ks ps cs js = record {
-  kinds = ks;
-  places = ps;
-  closed = getD cs 0 0;
-  events = getD cs 1 0;
-  closing = getD cs 2 0;
-  fired = evens (drop 3 cs);
-  jumps = odds (drop 3 cs);
-  pairs = js;
-}
 
 -- the state in a record of the net N
 unfoldable pub stateIn : Net → List ℕ → State

@@ -1,12 +1,12 @@
 -- What a replay stores, and its step. That the stored counts are the plain run's is proved, not said here.
 use Prim.Native.Nat.{ℕ, suc, _+_, _*_}
 use mathlib.Core.List.{List, [], _∷_, map}
-use lib.ListN.{length, getD, set, replicate}
+use lib.ListN.{length, getD, set, drop, replicate}
 use lib.Dec.{eqb}
 use Rattle.words.specs.Lists.{pick, keep, one, total, sumTo}
 use Rattle.words.specs.Refusals.{first}
 use Rattle.net.specs.Net.{Net, Arc}
-use Rattle.replay.specs.Plain.{Event, Ask, event, close, Plain, Hop, jumped, hops, walked, legs, endings, begins, refusal, closeTests, moves, lasts, history, positions}
+use Rattle.replay.specs.Plain.{Event, Ask, event, close, Plain, Leg, Hop, jumped, hops, walked, legs, endings, begins, refusal, closeTests, moves, lasts, history, positions}
 
 -- one more at index i
 abbrev pub bump : List ℕ → ℕ → List ℕ
@@ -29,6 +29,64 @@ pub record State : Type 0 where
   pub jumps : List ℕ
   pub pairs : List ℕ
 
+-- The state d with one part changed. A state is written out part by part in this file alone: here, at a start, from a plain
+-- run, and from a record's numbers.
+abbrev pub withPlaces : State → List ℕ → State
+withPlaces d x = record { kinds = d .kinds; places = x; closed = d .closed; events = d .events; closing = d .closing; fired = d .fired; jumps = d .jumps; pairs = d .pairs }
+
+abbrev pub withClosed : State → ℕ → State
+withClosed d x = record { kinds = d .kinds; places = d .places; closed = x; events = d .events; closing = d .closing; fired = d .fired; jumps = d .jumps; pairs = d .pairs }
+
+abbrev pub withEvents : State → ℕ → State
+withEvents d x = record { kinds = d .kinds; places = d .places; closed = d .closed; events = x; closing = d .closing; fired = d .fired; jumps = d .jumps; pairs = d .pairs }
+
+abbrev pub withClosing : State → ℕ → State
+withClosing d x = record { kinds = d .kinds; places = d .places; closed = d .closed; events = d .events; closing = x; fired = d .fired; jumps = d .jumps; pairs = d .pairs }
+
+abbrev pub withFired : State → List ℕ → State
+withFired d x = record { kinds = d .kinds; places = d .places; closed = d .closed; events = d .events; closing = d .closing; fired = x; jumps = d .jumps; pairs = d .pairs }
+
+abbrev pub withJumps : State → List ℕ → State
+withJumps d x = record { kinds = d .kinds; places = d .places; closed = d .closed; events = d .events; closing = d .closing; fired = d .fired; jumps = x; pairs = d .pairs }
+
+abbrev pub withPairs : State → List ℕ → State
+withPairs d x = record { kinds = d .kinds; places = d .places; closed = d .closed; events = d .events; closing = d .closing; fired = d .fired; jumps = d .jumps; pairs = x }
+
+-- the numbers with even and with odd index
+abbrev pub evens : List ℕ → List ℕ
+evens [] = []
+evens (x ∷ []) = x ∷ []
+evens (x ∷ y ∷ r) = x ∷ evens r
+
+abbrev pub odds : List ℕ → List ℕ
+odds [] = []
+odds (x ∷ []) = []
+odds (x ∷ y ∷ r) = y ∷ odds r
+
+-- a state by the numbers of a record's four bodies behind the table: register, positions, counts, jumps
+abbrev pub stateFrom : List ℕ → List ℕ → List ℕ → List ℕ → State
+stateFrom ks ps cs js = record {
+  kinds = ks;
+  places = ps;
+  closed = getD cs 0 0;
+  events = getD cs 1 0;
+  closing = getD cs 2 0;
+  fired = evens (drop 3 cs);
+  jumps = odds (drop 3 cs);
+  pairs = js;
+}
+
+-- the jumps of legs that are walked from the state d on
+abbrev pub leapsOf : State → List Leg → List Hop
+leapsOf d ls = keep jumped (hops (d .places) ls)
+
+-- jumps counted beside their pairs: an event's at its activity, the close's as closing jumps
+abbrev pub actJumps : State → List Hop → State
+actJumps d hs = withJumps d (tally (d .jumps) (map (λ (h : Hop). h .act) hs))
+
+abbrev pub closeJumps : State → List Hop → State
+closeJumps d hs = withClosing d (d .closing + length hs)
+
 module _ (N : Net) where
   -- the index of an ordered pair of places, and of a hop's
   abbrev pub pairIndex : ℕ → ℕ → ℕ
@@ -37,35 +95,18 @@ module _ (N : Net) where
   abbrev pub hopIndex : Hop → ℕ
   hopIndex h = pairIndex (h .from) (h .to)
 
-  -- an accepted event
-  abbrev pub afterEvent : State → Event → State
-  afterEvent d e =
-      let hs : List Hop = keep jumped (hops (d .places) (legs N (d .kinds) e)) in
-      record {
-        kinds = d .kinds;
-        places = walked (d .places) (legs N (d .kinds) e);
-        closed = d .closed;
-        events = suc (d .events);
-        closing = d .closing;
-        fired = bump (d .fired) (e .act);
-        jumps = tally (d .jumps) (map (λ (h : Hop). h .act) hs);
-        pairs = tally (d .pairs) (map hopIndex hs);
-      }
+  -- the step of an event and of the close, over their legs: the places are walked, and the jumps are counted at their pairs,
+  -- and by `own`
+  abbrev pub afterLegs : (State → List Hop → State) → State → List Leg → State
+  afterLegs own d ls = own (withPairs (withPlaces d (walked (d .places) ls)) (tally (d .pairs) (map hopIndex (leapsOf d ls)))) (leapsOf d ls)
 
-  -- an accepted close
+  -- an accepted event: its legs, and it is counted itself
+  abbrev pub afterEvent : State → Event → State
+  afterEvent d e = withFired (withEvents (afterLegs actJumps d (legs N (d .kinds) e)) (suc (d .events))) (bump (d .fired) (e .act))
+
+  -- an accepted close: its legs, with their jumps counted from 0 on, and the trail is closed
   abbrev pub afterClose : State → State
-  afterClose d =
-      let hs : List Hop = keep jumped (hops (d .places) (endings N (d .kinds))) in
-      record {
-        kinds = d .kinds;
-        places = walked (d .places) (endings N (d .kinds));
-        closed = 1;
-        events = d .events;
-        closing = length hs;
-        fired = d .fired;
-        jumps = d .jumps;
-        pairs = tally (d .pairs) (map hopIndex hs);
-      }
+  afterClose d = withClosed (afterLegs closeJumps (withClosing d 0) (endings N (d .kinds))) 1
 
   -- a started replay
   abbrev pub startState : List ℕ → State

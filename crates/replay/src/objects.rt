@@ -7,14 +7,14 @@ use words::wide;
 ghost use mathlib.Core.Bool.{not};
 ghost use mathlib.Core.Path.{_≡_};
 ghost use Prim.Native.Nat.{_≤_, _<_};
-ghost use lib.ListN.{length, take};
+ghost use lib.ListN.{length};
 ghost use lib.Seq.{sets};
 ghost use Rattle.words.specs.Lists.{one};
 ghost use Rattle.words.specs.Refusals.{first};
 ghost use Rattle.words.specs.Words.{wordsOf};
 ghost use Rattle.net.specs.Held.{netIn, Held};
 ghost use Rattle.net.specs.Net.{takes};
-ghost use Rattle.replay.specs.Plain.{kindsOf, objectTests};
+ghost use Rattle.replay.specs.Plain.{kindsOf, knownTests, objectTests};
 ghost use Rattle.replay.specs.Ready.{KnownKinds};
 
 // 1 where the activity does not take kind k, else 0.
@@ -40,7 +40,7 @@ fn take_kinds(
     requires { ⌜ Held (now t) ⌝ }
     requires { ⌜ KnownKinds (netIn (now t)) (wordsOf (now register)) ⌝ }
     requires { ⌜ (length (wordsOf (now objs)) ≤ 8) × (act < netIn (now t) .acts) ⌝ }
-    ensures code { λ r. ⌜ r ≡ first (take 2 (objectTests (netIn (now (t .entry))) (wordsOf (now (register .entry))) act (wordsOf (now (objs .entry))))) ⌝ }
+    ensures code { λ r. ⌜ r ≡ first (knownTests (netIn (now (t .entry))) (wordsOf (now (register .entry))) act (wordsOf (now (objs .entry)))) ⌝ }
     ensures kinds { λ r. ⌜ (r ≡ 0 → now (kinds .exit) ≡ sets (now (kinds .entry)) 0 (kindsOf (wordsOf (now (register .entry))) (wordsOf (now (objs .entry))))) ⌝ }
 {
     let size = register.len() / 4;

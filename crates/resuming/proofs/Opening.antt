@@ -19,7 +19,8 @@ use Rattle.net.specs.Table.{loadCode}
 use Rattle.net.specs.Held.{loadedWords, netIn}
 use Rattle.net.proofs.HeldLaws.{loaded-held, held-net}
 use Rattle.replay.specs.Plain.{registerCode}
-use Rattle.replay.specs.Record.{countsSize, wordsFrom, tableIn, stateFrom, stateIn}
+use Rattle.replay.specs.State.{stateFrom}
+use Rattle.replay.specs.Record.{countsSize, wordsFrom, tableIn, stateIn}
 use Rattle.replay.specs.Calls.{netAt, stateAt}
 use Rattle.checkpoint.specs.Restore.{beginsClosed, tests44, tests45, tests46, tests47, bodyTests, restoreTests, restoreCode, restoreSecond}
 use Rattle.checkpoint.specs.Take.{Framed, Opened, takeCode, takeBytes}

@@ -43,7 +43,7 @@ window-tests N ks accepted w body at = rw (length-at w 8 (word w 4))
 
 pub front-ready : (N : Net) → Loaded N → (accepted : ℕ) (w : List ℕ) (body at : ℕ) → first (frontTests N accepted w body at) ≡ 0 → body ≤ 18446744073709551615 → Ready N w at
 front-ready N L accepted w body at e h =
-    let t = none-apply (frontTests N accepted w body at) (omega arith) e .1 .1 .1 .1 in
+    let t = none-apply (frontTests N accepted w body at) (omega arith) e .1 .1 .1 .1 .1 in
     let a : word w 0 < N .acts = leb-false (N .acts) (word w 0) (t .0) in
     record {
       act = a;

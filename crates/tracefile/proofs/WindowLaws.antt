@@ -1,12 +1,12 @@
 -- Reading needs no more than the 40 bytes at the position. Assumes nothing.
 use Prim.Native.Nat.{ℕ, zero, suc, _+_, _*_, _≤_, _<_}
-use mathlib.Core.Bool.{Bool, not}
+use mathlib.Core.Bool.{Bool}
 use mathlib.Core.Path.{_≡_, refl, ap, ap₂, sym, _∙_}
-use mathlib.Core.List.{List, [], _∷_, _++_}
+use mathlib.Core.List.{List, _∷_, _++_}
 use native.Mathlib.Decide.{ℕ-discrete}
 use native.Mathlib.Nat.{add-zero}
 use native.Mathlib.Omega.{arith}
-use lib.Dec.{ltb, leb, eqb}
+use lib.Dec.{ltb}
 use lib.ListN.{length, take, drop}
 use borrow.Author.Tests.{leb-false, lt-ltb, eq-eqb, ne-eqb}
 use Rattle.words.specs.Refusals.{first}
@@ -14,7 +14,7 @@ use Rattle.words.specs.Words.{word, wordsAt}
 use Rattle.words.proofs.Lists.{is-eq}
 use Rattle.words.proofs.Refusals.{none-apply, first-stays}
 use Rattle.net.specs.Net.{Net, Loaded}
-use Rattle.replay.specs.Plain.{objectTests}
+use Rattle.replay.specs.Plain.{trailTests, activityTests, objectTests}
 use Rattle.opening.proofs.SameBytes.{same-word, same-short, same-more}
 use Rattle.tracefile.specs.declared.Answer.{Answer}
 use Rattle.tracefile.specs.declared.Found.the-variants as found
@@ -37,10 +37,8 @@ headTests N accepted body at short a n =
     (ltb body at, 73)
     ∷ (ltb body (at + 8), 73)
     ∷ (short, 73)
-    ∷ (leb 1000000 accepted, 22)
-    ∷ (leb (N .acts) a, 23)
-    ∷ (not (eqb n (length (N .arcs a))), 24)
-    ∷ []
+    ∷ trailTests 0 accepted
+    ++ activityTests N a n
 
 abbrev restTests : Net → List ℕ → ℕ → ℕ → ℕ → Bool → ℕ → List ℕ → List (Bool × ℕ)
 restTests N ks body at n short a os = (ltb body (at + 8 + 4 * n), 73) ∷ (short, 73) ∷ objectTests N ks a os
@@ -77,7 +75,7 @@ module _ (N : Net) (L : Loaded N) (ks : List ℕ) (accepted : ℕ) (w b : List �
   -- where no test up to 24 applies there are at most 8 objects
   few : first headIn ≡ 0 → word w 4 ≤ 8
   few e =
-      let t = none-apply headIn (omega arith) e .1 .1 .1 .1 in
+      let t = none-apply headIn (omega arith) e .1 .1 .1 .1 .1 in
       omega (arith, is-eq (word w 4) (length (N .arcs (word w 0))) (t .1 .0), L .arcs-le (word w 0) (leb-false (N .acts) (word w 0) (t .0)))
 
   module _ (n : word w 4 ≤ 8) where

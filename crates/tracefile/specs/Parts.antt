@@ -1,13 +1,13 @@
 -- The tests of a read in the parts in which they are made, and what each part may rely on.
 use Prim.Native.Nat.{ℕ, _+_, _*_, _≤_, _<_}
-use mathlib.Core.Bool.{Bool, not}
-use mathlib.Core.List.{List, [], _∷_}
+use mathlib.Core.Bool.{Bool}
+use mathlib.Core.List.{List, [], _∷_, _++_}
 use lib.ListN.{length}
-use lib.Dec.{ltb, leb, eqb}
+use lib.Dec.{ltb}
 use Rattle.words.specs.Refusals.{first}
 use Rattle.words.specs.Words.{word, wordsAt}
 use Rattle.net.specs.Net.{Net}
-use Rattle.replay.specs.Plain.{objectTests}
+use Rattle.replay.specs.Plain.{trailTests, activityTests, objectTests}
 use Rattle.tracefile.specs.declared.Answer.{Answer}
 use Rattle.tracefile.specs.Answers.{unless}
 use Rattle.tracefile.specs.Trace.{eventFound, readFrom}
@@ -15,20 +15,19 @@ use Rattle.tracefile.specs.Trace.{eventFound, readFrom}
 -- 23, 24, and the objects in body and file
 abbrev pub countTests : Net → List ℕ → ℕ → ℕ → List (Bool × ℕ)
 countTests N w body at =
-    (leb (N .acts) (word w 0), 23)
-    ∷ (not (eqb (word w 4) (length (N .arcs (word w 0)))), 24)
-    ∷ (ltb body (at + 8 + 4 * word w 4), 73)
+    activityTests N (word w 0) (word w 4)
+    ++ (ltb body (at + 8 + 4 * word w 4), 73)
     ∷ (ltb (length w) (8 + 4 * word w 4), 73)
     ∷ []
 
--- all before the objects
+-- all before the objects; 21 is for a closed trail and never applies
 abbrev pub frontTests : Net → ℕ → List ℕ → ℕ → ℕ → List (Bool × ℕ)
 frontTests N accepted w body at =
     (ltb body at, 73)
     ∷ (ltb body (at + 8), 73)
     ∷ (ltb (length w) 8, 73)
-    ∷ (leb 1000000 accepted, 22)
-    ∷ countTests N w body at
+    ∷ trailTests 0 accepted
+    ++ countTests N w body at
 
 -- an event in the window w whose numbers are all there, of a known activity, with as many objects as it has arcs
 pub record Ready (N : Net) (w : List ℕ) (at : ℕ) : Type 0 where

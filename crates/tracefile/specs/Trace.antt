@@ -2,14 +2,14 @@
 use Prim.Native.Nat.{ℕ, _+_, _*_}
 use mathlib.Core.Bool.{Bool}
 use mathlib.Core.List.{List, [], _∷_, _++_}
-use lib.ListN.{length, take, drop, replicate}
+use lib.ListN.{length, replicate}
 use lib.Dec.{ltb, eqb}
 use lib.Seq.{sets}
 use Rattle.words.specs.Lists.{pick}
 use Rattle.words.specs.Refusals.{first}
 use Rattle.words.specs.Words.{word, wordsAt}
 use Rattle.net.specs.Net.{Net}
-use Rattle.replay.specs.Plain.{Event, eventTests}
+use Rattle.replay.specs.Plain.{Event, trailTests, activityTests, objectTests}
 use Rattle.opening.specs.Opening.{shapeTests}
 use Rattle.tracefile.specs.declared.Answer.{Answer}
 use Rattle.tracefile.specs.declared.Found.the-variants as found
@@ -46,14 +46,15 @@ module _ (N : Net) (ks : List ℕ) (accepted : ℕ) (b : List ℕ) (from body at
   -- objects in body and file; 25 to 27
   abbrev pub readTests : List (Bool × ℕ)
   readTests =
-      let es : List (Bool × ℕ) = eventTests N ks 0 accepted (eventAt b from) in
+      let e : Event = eventAt b from in
       (ltb body at, 73)
       ∷ (ltb body (at + 8), 73)
       ∷ (ltb (length b) (from + 8), 73)
-      ∷ take 4 es
+      ∷ trailTests 0 accepted
+      ++ activityTests N (e .act) (length (e .objs))
       ++ (ltb body (at + 8 + 4 * word b (from + 4)), 73)
       ∷ (ltb (length b) (from + 8 + 4 * word b (from + 4)), 73)
-      ∷ drop 4 es
+      ∷ objectTests N ks (e .act) (e .objs)
 
   -- the number of the refusal; 0 where an event or the body's end is found
   unfoldable pub readCode : ℕ

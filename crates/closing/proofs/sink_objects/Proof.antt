@@ -2,14 +2,16 @@
 use borrow.Author.Needs.{needs}
 use Prim.Native.Nat.{ℕ, _+_, _≤_, _<_, _-_}
 use mathlib.Core.Path.{_≡_, refl, ap, _∙_}
+use mathlib.Core.List.{map}
 use native.Mathlib.Omega.{arith}
 use lib.ListN.{length, getD}
 use Rattle.words.specs.Lists.{upto}
 use Rattle.words.specs.Words.{wordsOf}
 use Rattle.net.specs.Held.{netIn}
+use Rattle.replay.specs.Plain.{ending, endings}
+use Rattle.replay.specs.State.{closeJumps, afterLegs}
 use Rattle.replay.specs.Record.{tableIn}
 use Rattle.replay.specs.Calls.{stateAt}
-use Rattle.closing.specs.Sunk.{sunkState}
 use Rattle.moves.proofs.Begins.{walk-start}
 use Rattle.moves.proofs.Layouts.{placed-at, counts-few, kind-of-in}
 use Rattle.moves.proofs.Walk.{sum-start, sum-few, register-in, register-kind, can-add-sum, can-move}
@@ -19,7 +21,7 @@ use Rattle.closing.proofs.sink_objects.Tie as tie
 
 abbrev Inv-loop : tie.InvT-loop
 Inv-loop rec₀ t lay o₀ jumps₀ rec o jumps = (o ≤ lay .objects) × (jumps ≤ o) × (length rec ≡ length rec₀)
-    × Sinking (netIn t) (tableIn rec₀) lay (8001025 + o) (stateAt rec₀ .kinds) (upto (lay .objects - o) o) (sunkState (netIn t) (stateAt rec₀) (upto (length (stateAt rec₀ .kinds)) 0)) jumps (wordsOf rec)
+    × Sinking (netIn t) (tableIn rec₀) lay (8001025 + o) (stateAt rec₀ .kinds) (upto (lay .objects - o) o) (afterLegs (netIn t) closeJumps (stateAt rec₀) (endings (netIn t) (stateAt rec₀ .kinds))) jumps (wordsOf rec)
 
 abbrev μ-loop : tie.MeasureT-loop
 μ-loop rec₀ t lay o₀ jumps₀ rec o jumps = lay .objects - o
@@ -35,7 +37,7 @@ loop-holds : tie.Need-loop-holds Inv-loop μ-loop
 loop-holds c =
     let s = c .before in
     let z : s .args .lay .objects - 0 ≡ length (stateAt (s .args .rec .now) .kinds) = omega (arith, placed-at _ _ _ (s .pre .0) (s .pre .1) .kinds-size) in
-    (omega arith, omega arith, refl, record { state = stateAt (s .args .rec .now); sum = sum-start _ _ _ _ _ _ _ (walk-start _ _ _ (s .pre .0) (s .pre .1)) (omega arith) (omega (arith, placed-at _ _ _ (s .pre .0) (s .pre .1) .jumps-at)); same = refl; left = ap (λ (n : ℕ). sunkState (netIn (s .args .t .now)) (stateAt (s .args .rec .now)) (upto n 0)) z })
+    (omega arith, omega arith, refl, record { state = stateAt (s .args .rec .now); sum = sum-start _ _ _ _ _ _ _ (walk-start _ _ _ (s .pre .0) (s .pre .1)) (omega arith) (omega (arith, placed-at _ _ _ (s .pre .0) (s .pre .1) .jumps-at)); same = refl; left = ap (λ (n : ℕ). afterLegs (netIn (s .args .t .now)) closeJumps (stateAt (s .args .rec .now)) (map (ending (netIn (s .args .t .now)) (stateAt (s .args .rec .now) .kinds)) (upto n 0))) z })
 
 add-get-word : tie.Need-add-get-word Inv-loop μ-loop
 add-get-word c = let l = c .before .before .before .before .loop in omega (arith, register-in _ _ _ _ _ _ _ _ (l .inv .3 .sum) (l .o) (c .before .before .if1 .taken), sum-few _ _ _ _ _ _ _ _ (l .inv .3 .sum))
@@ -65,11 +67,11 @@ loop-less : tie.Need-loop-less Inv-loop μ-loop
 loop-less c = search needs
 
 loop-again : tie.Need-loop-again Inv-loop μ-loop
-loop-again c = let l = c .before .before .before .before .before .before .before .before .before .before .loop in let h = c .before .before .before .before .before .before .before .before .if1 .taken in let p = c .before .before .before .before in let m = c .before .before .move-object in (
+loop-again c = let s = c .before .before .before .before .before .before .before .before .before .before .before .before in let l = c .before .before .before .before .before .before .before .before .before .before .loop in let h = c .before .before .before .before .before .before .before .before .if1 .taken in let p = c .before .before .before .before in let m = c .before .before .move-object in (
   omega arith,
   omega (arith, m .ensures .2),
   omega arith,
-  rw (m .ensures .0, m .ensures .1, p .sink .ensures) (sink-turn _ _ _ (8001025 + l .o) _ _ _ _ _ (l .o) (l .inv .3) (8001025 + (l .o + 1)) (c .before .before .before .before .before .get-word .result) h (read-is (c .before .before .before .before .before)) h (rw (p .sink .ensures) at (sink-in p)) (omega arith)),
+  rw (m .ensures .0, m .ensures .1, p .sink .ensures) (sink-turn _ _ _ (8001025 + l .o) _ _ _ _ (s .args .lay .objects) (l .o) (l .inv .3) (8001025 + (l .o + 1)) (c .before .before .before .before .before .get-word .result) h (read-is (c .before .before .before .before .before)) h (rw (p .sink .ensures) at (sink-in p)) (omega arith)),
 )
 
 add-add : tie.Need-add-add Inv-loop μ-loop
@@ -82,7 +84,7 @@ same-length : tie.Need-same-length Inv-loop μ-loop
 same-length c = search needs
 
 returns : tie.Need-returns Inv-loop μ-loop
-returns c = let l = c .before .before .before .before .before .before .before .loop in c .before .before .add .ensures ∙ sink-end _ _ _ _ _ _ _ _ _ (l .o) (l .inv .3) (c .before .before .before .before .before .if1 .left)
+returns c = let l = c .before .before .before .before .before .before .before .loop in c .before .before .add .ensures ∙ sink-end _ _ _ _ _ _ _ _ (c .before .before .before .before .before .before .before .before .before .args .lay .objects) (l .o) (l .inv .3) (c .before .before .before .before .before .if1 .left)
 
 pub sink-objects-spec : {M : Type 1} → statement M
 sink-objects-spec =

@@ -7,9 +7,10 @@ use lib.ListN.{length, getD, drop}
 use Rattle.words.specs.Words.{wordsOf}
 use Rattle.words.proofs.Words.{length-words}
 use Rattle.net.specs.Held.{netIn}
+use Rattle.replay.specs.Plain.{legs}
+use Rattle.replay.specs.State.{actJumps, afterLegs}
 use Rattle.replay.specs.Record.{tableIn}
 use Rattle.replay.specs.Calls.{stateAt}
-use Rattle.events.specs.Moved.{movedState}
 use Rattle.events.proofs.Asked.{few-objects, object-in, own-kind-in, own-kind-taken, inp-in, out-in, own-in}
 use Rattle.moves.proofs.Begins.{walk-start}
 use Rattle.moves.proofs.Layouts.{placed-at}
@@ -21,7 +22,7 @@ use Rattle.events.proofs.event.step_objects.Tie as tie
 abbrev Inv-loop : tie.InvT-loop
 Inv-loop rec₀ t lay act objs n done₀ jumps₀ rec done jumps =
     (done ≤ length (wordsOf objs)) × (jumps ≤ done) × (length rec ≡ length rec₀)
-    × Stepping (netIn t) (tableIn rec₀) lay (8001025 + done) act (stateAt rec₀ .kinds) (drop done (wordsOf objs)) (movedState (netIn t) (stateAt rec₀) act (wordsOf objs)) jumps (wordsOf rec)
+    × Stepping (netIn t) (tableIn rec₀) lay (8001025 + done) act (stateAt rec₀ .kinds) (drop done (wordsOf objs)) (afterLegs (netIn t) actJumps (stateAt rec₀) (legs (netIn t) (stateAt rec₀ .kinds) (record { act = act; objs = wordsOf objs }))) jumps (wordsOf rec)
 
 abbrev μ-loop : tie.MeasureT-loop
 μ-loop rec₀ t lay act objs n done₀ jumps₀ rec done jumps = n - done
@@ -97,7 +98,7 @@ loop-again c = let s = c .before .before .before .before .before .before .before
   omega (arith, m .ensures .2),
   omega arith,
   rw (m .ensures .0, m .ensures .1, i .input .ensures, o .output .ensures, object-at (c .before .before .before .before .before .before .before .before .before))
-      (step-turn _ _ _ (8001025 + l .done) _ _ _ _ _ _ (l .done) (l .inv .3) (8001025 + (l .done + 1)) (c .before .before .before .before .before .before .wide2 .result) h (kind-at (c .before .before .before .before .before .before)) (s .pre .counted .act-in) (object-in _ _ _ _ _ (s .pre) (l .done) h) (rw (i .input .ensures) at (inp-at i)) (rw (o .output .ensures) at (out-at o)) (omega arith)),
+      (step-turn _ _ _ (8001025 + l .done) _ _ (wordsOf (s .args .objs .now)) _ _ _ (l .done) (l .inv .3) (s .pre .counted .act-in) (8001025 + (l .done + 1)) (c .before .before .before .before .before .before .wide2 .result) h (kind-at (c .before .before .before .before .before .before)) (object-in _ _ _ _ _ (s .pre) (l .done) h) (rw (i .input .ensures) at (inp-at i)) (rw (o .output .ensures) at (out-at o)) (omega arith)),
 )
 
 mul-add : tie.Need-mul-add Inv-loop μ-loop
@@ -117,7 +118,7 @@ same-length : tie.Need-same-length Inv-loop μ-loop
 same-length c = search needs
 
 returns : tie.Need-returns Inv-loop μ-loop
-returns c = c .before .before .add .ensures ∙ step-end _ _ _ _ _ _ _ _ _ _ (c .before .before .before .before .before .before .loop .done) (c .before .before .before .before .before .before .loop .inv .3) (omega (arith, length-words (c .before .before .before .before .before .before .before .before .before .args .objs .now), c .before .before .before .before .before .loop-test .left))
+returns c = c .before .before .add .ensures ∙ step-end _ _ _ _ _ _ (wordsOf (c .before .before .before .before .before .before .before .before .before .args .objs .now)) _ _ _ (c .before .before .before .before .before .before .loop .done) (c .before .before .before .before .before .before .loop .inv .3) (c .before .before .before .before .before .before .before .before .before .pre .counted .act-in) (omega (arith, length-words (c .before .before .before .before .before .before .before .before .before .args .objs .now), c .before .before .before .before .before .loop-test .left))
 
 pub step-objects-spec : {M : Type 1} → statement M
 step-objects-spec =

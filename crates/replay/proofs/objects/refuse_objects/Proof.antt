@@ -2,7 +2,7 @@
 use Prim.Native.Nat.{ℕ}
 use mathlib.Core.Bool.{Bool}
 use mathlib.Core.Path.{_≡_, refl, ap, sym, _∙_}
-use mathlib.Core.List.{List, [], _∷_}
+use mathlib.Core.List.{List}
 use native.Mathlib.Omega.{arith}
 use lib.ListN.{length, take, replicate}
 use lib.Seq.{sets}
@@ -12,7 +12,7 @@ use Rattle.words.specs.Words.{wordsOf}
 use Rattle.words.proofs.Refusals.{first-then, first-stays}
 use Rattle.words.proofs.Words.{length-words}
 use Rattle.net.specs.Held.{netIn}
-use Rattle.replay.specs.Plain.{kindsOf, objectTests}
+use Rattle.replay.specs.Plain.{kindsOf, knownTests, sameKindTests, objectTests}
 use Rattle.replay.proofs.ObjectLaws.{kinds-length, kinds-front}
 use borrow.Author.Needs.{needs}
 use Rattle.replay.proofs.objects.refuse_objects.Statement.{statement}
@@ -36,14 +36,14 @@ last c =
     let a = c .before .before .before .before .before .before .before .args in
     let ks : List ℕ = wordsOf (a .register .now) in
     ap (λ (b : Bool). pick {A = ℕ} b 27 0) (c .two-of-kind .ensures ∙ ap (λ (n : ℕ). twice (take n (c .before .before .before .take-kinds .last .1 .1 .1 .1 .0))) (sym (length-words (a .objs .now))) ∙ ap twice (front (c .before .before)))
-    ∙ sym (first-then (take 2 (objectTests (netIn (a .t .now)) ks (a .act) (wordsOf (a .objs .now)))) ((twice (kindsOf ks (wordsOf (a .objs .now))), 27) ∷ []) (sym (c .before .before .before .take-kinds .ensures .0) ∙ c .before .before .if1 .left) (omega arith))
+    ∙ sym (first-then (knownTests (netIn (a .t .now)) ks (a .act) (wordsOf (a .objs .now))) (sameKindTests ks (wordsOf (a .objs .now))) (sym (c .before .before .before .take-kinds .ensures .0) ∙ c .before .before .if1 .left) (omega arith))
 
 take-kinds-requires : tie.Need-take-kinds-requires
 take-kinds-requires c κs = search needs
 
 returns : tie.Need-returns
 returns c = let a = c .before .before .before .before .before .args in
-    c .before .take-kinds .ensures .0 ∙ sym (first-stays (take 2 (objectTests (netIn (a .t .now)) (wordsOf (a .register .now)) (a .act) (wordsOf (a .objs .now)))) ((twice (kindsOf (wordsOf (a .register .now)) (wordsOf (a .objs .now))), 27) ∷ []) (λ z. c .if1 .taken (c .before .take-kinds .ensures .0 ∙ z)))
+    c .before .take-kinds .ensures .0 ∙ sym (first-stays (knownTests (netIn (a .t .now)) (wordsOf (a .register .now)) (a .act) (wordsOf (a .objs .now))) (sameKindTests (wordsOf (a .register .now)) (wordsOf (a .objs .now))) (λ z. c .if1 .taken (c .before .take-kinds .ensures .0 ∙ z)))
 
 two-of-kind-requires : tie.Need-two-of-kind-requires
 two-of-kind-requires c κs = let s = c .before .before .before .before .before .before in
