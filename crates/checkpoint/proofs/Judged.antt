@@ -5,14 +5,14 @@ use mathlib.Core.Logic.{_⊎_, inl, inr}
 use mathlib.Core.Path.{_≡_, refl, ap, sym}
 use mathlib.Core.List.{[], _∷_}
 use native.Mathlib.Omega.{arith}
-use lib.ListN.{length}
+use lib.ListN.{length, getD}
 use lib.Dec.{eqb}
 use borrow.Author.Tests.{eqb-true, eqb-false, ltb-false, leb-false, not-true, eq-eqb, ne-eqb, le-ltb, lt-leb}
 use Rattle.words.specs.Lists.{either}
-use Rattle.words.proofs.Lists.{is-eq, not-eqb, clash, both-false, both-then, anyTo-none, anyTo-false}
+use Rattle.words.proofs.Lists.{is-eq, not-eqb, clash, both-false, both-then, All-to, any-none, any-false, anyTo-none, anyTo-false}
 use Rattle.words.proofs.Refusals.{None}
 use Rattle.net.specs.Net.{Net}
-use Rattle.replay.specs.Plain.{registerCode}
+use Rattle.replay.specs.Plain.{closers, registerCode}
 use Rattle.replay.specs.State.{State}
 use Rattle.replay.specs.Sound.{Sound}
 use Rattle.replay.specs.Record.{countsSize}
@@ -43,6 +43,10 @@ module _ (N : Net) (x y : ℕ) where
   is-apart (inl e) = two-either (eqb x y) (not (eqb (N .kindOf x) (N .kindOf y))) (inl (eq-eqb x y e))
   is-apart (inr n) = two-either (eqb x y) (not (eqb (N .kindOf x) (N .kindOf y))) (inr (ap not (ne-eqb _ _ n)))
 
+-- the object does not stand on its sink
+abbrev offSink : Net → State → ℕ → Bool
+offSink N d o = not (eqb (getD (d .places) o 0) (N .sink (getD (d .kinds) o 0)))
+
 -- a sound state passes
 pub sound-registered : (N : Net) (d : State) → Sound N d → registerCode N (d .kinds) ≡ 0
 sound-registered N d S = register-ok N (d .kinds) (record { some = S .some; few = S .few; kinds = S .kinds })
@@ -55,7 +59,7 @@ module _ (N : Net) (d : State) (S : Sound N d) (size : ℕ) where
       anyTo-false (length (d .kinds)) _ (λ o h. lt-leb _ _ (S .on .at o h .0)),
       (
         anyTo-false (length (d .kinds)) _ (λ o h. not-eqb _ _ (S .on .at o h .1)),
-        (both-false closed _ (λ q. anyTo-false (length (d .kinds)) _ (λ o h. not-eqb _ _ (S .sunk (c q) o h))), tt),
+        (both-false closed _ (λ q. any-false (offSink N d) (closers (d .kinds)) (All-to (λ (o : ℕ). getD (d .places) o 0 ≡ N .sink (getD (d .kinds) o 0)) (λ (o : ℕ). offSink N d o ≡ false) (λ o e. not-eqb _ _ e) (closers (d .kinds)) (S .sunk (c q)))), tt),
       ),
     ),
   )
@@ -99,7 +103,7 @@ module _ (N : Net) (d : State) (size5 size6 size7 : ℕ) (closed : Bool) where
           size = omega (arith, is-eq size5 (4 * length (d .kinds)) (n5 .0));
           at = λ o h. (leb-false _ _ (anyTo-none _ _ (n5 .1 .0) o h), is-eq _ _ (anyTo-none _ _ (n5 .1 .1 .0) o h));
         };
-        sunk = λ q o h. is-eq _ _ (anyTo-none _ _ (both-then closed _ (n5 .1 .1 .1 .0) (c q)) o h);
+        sunk = λ q. any-none (offSink N d) (λ (o : ℕ). getD (d .places) o 0 ≡ N .sink (getD (d .kinds) o 0)) (λ o e. is-eq _ _ e) (closers (d .kinds)) (both-then closed _ (n5 .1 .1 .1 .0) (c q));
         fired-size = fs;
         jumps-size = js;
         flag = ltb-false _ _ (n6 .1 .0);

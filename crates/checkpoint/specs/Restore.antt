@@ -4,12 +4,12 @@ use mathlib.Core.Bool.{Bool, not}
 use mathlib.Core.List.{List, [], _∷_, _++_}
 use lib.ListN.{length, getD}
 use lib.Dec.{ltb, leb, eqb}
-use Rattle.words.specs.Lists.{pick, either, both, anyTo, sumTo}
+use Rattle.words.specs.Lists.{pick, any, either, both, anyTo, sumTo}
 use Rattle.words.specs.Refusals.{first}
 use Rattle.words.specs.Words.{word, bodiesOf, endsAt}
 use Rattle.net.specs.Net.{Net}
 use Rattle.net.specs.Table.{loadCode}
-use Rattle.replay.specs.Plain.{registerCode}
+use Rattle.replay.specs.Plain.{closers, registerCode}
 use Rattle.replay.specs.State.{State, storedConsumed, storedPair, storedJumpsIn, storedMoved, storedJumps}
 use Rattle.replay.specs.Record.{tableIn, countsSize}
 use Rattle.replay.specs.Calls.{netAt, stateAt}
@@ -48,7 +48,7 @@ module _ (N : Net) (d : State) (size : ℕ) where
       (not (eqb size (4 * length (d .kinds))), 45)
       ∷ (anyTo (length (d .kinds)) (λ (o : ℕ). leb (N .places) (getD (d .places) o 0)), 45)
       ∷ (anyTo (length (d .kinds)) (λ (o : ℕ). not (eqb (N .kindOf (getD (d .places) o 0)) (getD (d .kinds) o 0))), 45)
-      ∷ (both closed (anyTo (length (d .kinds)) (λ (o : ℕ). not (eqb (getD (d .places) o 0) (N .sink (getD (d .kinds) o 0))))), 45)
+      ∷ (both closed (any (λ (o : ℕ). not (eqb (getD (d .places) o 0) (N .sink (getD (d .kinds) o 0)))) (closers (d .kinds))), 45)
       ∷ []
 
   -- 46: the length; the closed flag; the events; FIRED adds up to them; JUMPS above MOVED; the closing jumps, and none while open
@@ -59,7 +59,7 @@ module _ (N : Net) (d : State) (size : ℕ) where
       ∷ (ltb 1000000 (d .events), 46)
       ∷ (not (eqb (sumTo (N .acts) (λ (a : ℕ). getD (d .fired) a 0)) (d .events)), 46)
       ∷ (anyTo (N .acts) (λ (a : ℕ). ltb (storedMoved N d a) (getD (d .jumps) a 0)), 46)
-      ∷ (ltb (length (d .kinds)) (d .closing), 46)
+      ∷ (ltb (length (closers (d .kinds))) (d .closing), 46)
       ∷ (both (eqb (d .closed) 0) (not (eqb (d .closing) 0)), 46)
       ∷ []
 

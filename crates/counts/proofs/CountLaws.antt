@@ -22,6 +22,7 @@ use Rattle.replay.specs.Record.{recordWords, tableIn}
 use Rattle.replay.specs.Calls.{stateAt}
 use Rattle.replay.specs.Offsets.{layoutOf}
 use Rattle.replay.specs.Ready.{Ready}
+use Rattle.replay.proofs.Accepted.{closers-length}
 use Rattle.replay.proofs.Encode.{fired-le, jumps-le, pairs-le}
 use Rattle.replay.proofs.RecordLaws.{Placed, record-size, record-few, get-kind, get-closed, get-events, get-closing, get-fired, get-jumps, get-pair, ready-loaded, ready-sound, ready-words, ready-placed}
 
@@ -147,7 +148,7 @@ module _ (w b : List ℕ) (R : Ready w b) where
   closed-le = ready-sound w b R .flag
 
   pub closing-few : stateAt b .closing ≤ 1024
-  closing-few = let S = ready-sound w b R in omega (arith, S .closing-le, S .few)
+  closing-few = let S = ready-sound w b R in omega (arith, S .closing-le, closers-length (stateAt b .kinds), S .few)
 
   pub objects-few : length (stateAt b .kinds) ≤ 1024
   objects-few = ready-sound w b R .few

@@ -18,6 +18,7 @@ use Rattle.replay.specs.Plain.{registerCode}
 use Rattle.replay.specs.State.{evens, odds}
 use Rattle.replay.specs.Record.{countsSize}
 use Rattle.checkpoint.specs.Restore.{tests46}
+use Rattle.replay.proofs.Accepted.{closers-length}
 use Rattle.judging.specs.Judge.{hit, bodyState, Counted}
 use Rattle.judging.proofs.Totals.{same-false, fired-at, jumps-at}
 
@@ -69,7 +70,7 @@ module _ (N : Net) (ks cs : List ℕ) (size : ℕ) where
           counts-above t = rw (eq-eqb size (4 * countsSize N) e, le-ltb 1 (W 0) f, le-ltb 1000000 (W 1) g, fired-is, eq-eqb fired (W 1) s, above-is, t)
 
           pub counts-closing : above ≡ false → either (ltb (length (wordsOf ks)) (W 2) ∷ both (eqb (W 0) 0) (not (eqb (W 2) 0)) ∷ []) ≡ answer
-          counts-closing t = rw (eq-eqb size (4 * countsSize N) e, le-ltb 1 (W 0) f, le-ltb 1000000 (W 1) g, fired-is, eq-eqb fired (W 1) s, above-is, t)
+          counts-closing t = rw (eq-eqb size (4 * countsSize N) e, le-ltb 1 (W 0) f, le-ltb 1000000 (W 1) g, fired-is, eq-eqb fired (W 1) s, above-is, t, closers-length (wordsOf ks))
 
 -- a register to which 44 does not apply, with counts to which 46 does not
 pub counted : (N : Net) (ks cs : List ℕ) → registerCode N (wordsOf ks) ≡ 0 → hit (tests46 N (bodyState ks [] cs []) (length cs)) ≡ false → Counted N ks cs

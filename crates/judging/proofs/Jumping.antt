@@ -13,8 +13,9 @@ use Rattle.words.specs.Words.{wordsOf}
 use Rattle.words.proofs.Lists.{anyTo-none, anyTo-false, is-eq, not-eqb, both-false, both-then}
 use Rattle.words.proofs.Sums.{sumTo-same}
 use Rattle.net.specs.Net.{Net}
-use Rattle.replay.specs.State.{inputs, sunkOn, storedConsumed, odds}
+use Rattle.replay.specs.State.{inputs, sunkOn, storedConsumed, evens, odds}
 use Rattle.checkpoint.specs.Restore.{apart, tests47}
+use Rattle.replay.proofs.Accepted.{closers-kinds}
 use Rattle.judging.specs.Judge.{hit, bodyState, pairIn, foreignIn, barredIn}
 use Rattle.judging.proofs.Totals.{alone, same-false, sum-none, none-sum, any-sum, sum-columns, fired-at, jumps-at}
 
@@ -51,6 +52,7 @@ module _ (N : Net) (js : List ℕ) where
 pub consumed-is : (N : Net) (ks cs : List ℕ) (q : ℕ)
     → sumTo (N .acts) (λ (a : ℕ). getD (wordsOf cs) (3 + 2 * a) 0 * inputs N q a) + getD (wordsOf cs) 0 0 * sunkOn N (wordsOf ks) q ≡ storedConsumed N (bodyState ks [] cs []) q
 consumed-is N ks cs q = ap (λ (n : ℕ). n + getD (wordsOf cs) 0 0 * sunkOn N (wordsOf ks) q) (sumTo-same (N .acts) _ _ (λ a h. ap (λ (v : ℕ). v * inputs N q a) (sym (fired-at (wordsOf cs) a))))
+    ∙ ap (λ (x : List ℕ). sumTo (N .acts) (λ (a : ℕ). getD (evens (drop 3 (wordsOf cs))) a 0 * inputs N q a) + getD (wordsOf cs) 0 0 * sunkOn N x q) (sym (closers-kinds (wordsOf ks)))
 
 -- 47, of a register, a counts body and a jumps body of `size` bytes
 module _ (N : Net) (ks cs js : List ℕ) (size : ℕ) where

@@ -14,7 +14,7 @@ use Rattle.replay.specs.Offsets.{layoutOf}
 use Rattle.replay.specs.Ready.{Ready}
 use Rattle.replay.specs.declared.layout.Layout.{Layout}
 use Rattle.replay.proofs.Interleave.{All-interleave}
-use Rattle.replay.proofs.Encode.{fired-le, jumps-le, pairs-le}
+use Rattle.replay.proofs.Encode.{fired-le, jumps-le, closing-few, pairs-le}
 use Rattle.replay.proofs.RecordLaws.{Placed, get-place, get-tail, ready-loaded, ready-sound, ready-words}
 use Rattle.moves.proofs.Layouts.{placed-at}
 use Rattle.moves.proofs.Walk.{Walk}
@@ -35,7 +35,7 @@ module _ (w b : List ℕ) (l : Layout) (R : Ready w b) (e : l ≡ layoutOf (netI
         (
           omega (arith, S .events),
           (
-            omega (arith, S .closing-le, S .few),
+            omega (arith, closing-few N L d S),
             All-interleave (λ (x : ℕ). x < 8001025) (d .fired) (d .jumps)
                 (All-of (λ (x : ℕ). x < 8001025) 0 (d .fired) (λ a h. omega (arith, fired-le N L d S a (omega (arith, S .fired-size)))))
                 (All-of (λ (x : ℕ). x < 8001025) 0 (d .jumps) (λ a h. omega (arith, jumps-le N L d S a (omega (arith, S .jumps-size))))),

@@ -12,11 +12,11 @@ use lib.Dec.{eqb, leb}
 use borrow.Author.Tests.{eqb-false, ltb-false, leb-false, not-false, eq-eqb, ne-eqb, le-ltb, lt-leb}
 use Rattle.words.specs.Lists.{pick, All, has, twice, one, total, upto}
 use Rattle.words.specs.Refusals.{first}
-use Rattle.words.proofs.Lists.{pos, is-eq, clash, All-append, All-zip, All-to, All-unmap, All-map, All-at, any-none, any-false, map-at, upto-in}
+use Rattle.words.proofs.Lists.{pos, is-eq, clash, All-append, All-zip, All-to, All-unmap, All-map, All-at, any-none, any-false, map-at, upto-in, length-upto}
 use Rattle.words.proofs.Sums.{total-append, total-map, total-same, total-length, sumTo-same, squeeze, by-value}
 use Rattle.words.proofs.Refusals.{none-apply, first-zero}
 use Rattle.net.specs.Net.{Net, Arc, Loaded, GoodArc, arcKinds, takes, arcOf}
-use Rattle.replay.specs.Plain.{Event, Leg, Hop, hops, walked, kindsOf, leg, legs, ending, endings, begins, course, after, eventTests, refusal, closeTests, registerTests, registerCode}
+use Rattle.replay.specs.Plain.{Event, Leg, Hop, hops, walked, kindsOf, closers, closerKinds, leg, legs, ending, endings, begins, course, after, eventTests, refusal, closeTests, registerTests, registerCode}
 use Rattle.replay.specs.Sound.{OnKind}
 
 -- what acceptance says of an event
@@ -246,21 +246,26 @@ module _ (N : Net) (L : Loaded N) (ks : List ℕ) (kk : All (λ (k : ℕ). k < N
   begins-on = record { size = length-map ks (N .source); at = λ o h. let k = All-at (λ (k : ℕ). k < N .kinds) 0 ks kk o h in rw (map-at (N .source) 0 0 ks o h) (L .source-in _ k, L .source-of _ k) }
 
   pub endings-good : All (GoodLeg N ks) (endings N ks)
-  endings-good = go (upto (length ks) 0) (upto-in (length ks) 0)
+  endings-good = go (closers ks) (upto-in (length ks) 0)
     where
       go : (os : List ℕ) → All (λ (o : ℕ). o < 0 + length ks) os → All (GoodLeg N ks) (map (ending N ks) os)
       go [] a = tt
       go (o ∷ os) a = let h : o < length ks = omega arith in let k = All-at (λ (k : ℕ). k < N .kinds) 0 ks kk o h in
           (record { obj-in = h; inp-in = L .sink-in _ k; inp-of = L .sink-of _ k; out-in = L .sink-in _ k; out-of = L .sink-of _ k }, go os (a .1))
 
-upto-shift : (w : ℕ → ℕ) (n i : ℕ) → total w (upto n (suc i)) ≡ total (λ (o : ℕ). w (suc o)) (upto n i)
-upto-shift w zero i = refl
-upto-shift w (suc n) i = ap (λ (m : ℕ). w (suc i) + m) (upto-shift w n (suc i))
+upto-shift : (f : ℕ → ℕ) (n i : ℕ) → map f (upto n (suc i)) ≡ map (λ (o : ℕ). f (suc o)) (upto n i)
+upto-shift f zero i = refl
+upto-shift f (suc n) i = ap (λ (l : List ℕ). f (suc i) ∷ l) (upto-shift f n (suc i))
 
-upto-total : (u : ℕ → ℕ) (l : List ℕ) → total (λ (o : ℕ). u (getD l o 0)) (upto (length l) 0) ≡ total u l
-upto-total u [] = refl
-upto-total u (x ∷ l) = omega (arith, upto-shift (λ (o : ℕ). u (getD (x ∷ l) o 0)) (length l) 0, upto-total u l)
+-- every object is taken at the close: as many as the register has, with its kinds
+pub closers-length : (ks : List ℕ) → length (closers ks) ≡ length ks
+closers-length ks = length-upto (length ks) 0
 
--- the hops of the close, by the objects' sinks alone
-pub endings-sum : (N : Net) (ks : List ℕ) (v : ℕ → ℕ) (ps : List ℕ) → total (λ (h : Hop). v (h .to)) (hops ps (endings N ks)) ≡ total (λ (k : ℕ). v (N .sink k)) ks
-endings-sum N ks v ps = hops-sum (λ (a t : ℕ). v t) (endings N ks) ps ∙ total-map (ending N ks) (λ (l : Leg). v (l .inp)) (upto (length ks) 0) ∙ upto-total (λ (k : ℕ). v (N .sink k)) ks
+pub closers-kinds : (ks : List ℕ) → closerKinds ks ≡ ks
+closers-kinds [] = refl
+closers-kinds (k ∷ ks) = ap (λ (l : List ℕ). k ∷ l) (upto-shift (λ (o : ℕ). getD (k ∷ ks) o 0) (length ks) 0 ∙ closers-kinds ks)
+
+-- the hops of the close, by the sinks of the objects that it takes alone
+pub endings-sum : (N : Net) (ks : List ℕ) (v : ℕ → ℕ) (ps : List ℕ) → total (λ (h : Hop). v (h .to)) (hops ps (endings N ks)) ≡ total (λ (k : ℕ). v (N .sink k)) (closerKinds ks)
+endings-sum N ks v ps =
+    hops-sum (λ (a t : ℕ). v t) (endings N ks) ps ∙ total-map (ending N ks) (λ (l : Leg). v (l .inp)) (closers ks) ∙ sym (total-map (λ (o : ℕ). getD ks o 0) (λ (k : ℕ). v (N .sink k)) (closers ks))

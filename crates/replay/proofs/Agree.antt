@@ -6,19 +6,19 @@ use mathlib.Core.List.{List, [], _∷_, map}
 use native.Mathlib.Omega.{arith}
 use native.Mathlib.Decide.{ℕ-discrete}
 use lib.Arith.{digits-div, digits-lt}
-use lib.ListN.{length, getD, length-append}
+use lib.ListN.{length, getD, length-append, length-map}
 use lib.Dec.{eqb}
 use borrow.Author.Tests.{eqb-true, eq-eqb, ne-eqb}
 use Rattle.words.specs.Lists.{pick, All, keep, one, total, sumTo}
 use Rattle.words.proofs.Lists.{All-append, All-keep}
 use Rattle.words.proofs.Sums.{total-append, total-map, total-same, total-swap, total-length, sumTo-same, sumTo-at, by-value}
 use Rattle.net.specs.Net.{Net, Arc, Loaded}
-use Rattle.replay.specs.Plain.{Event, Ask, event, close, Plain, Hop, jumped, hops, walked, endings, begins, start, withFlag, answer, accept, ask, run, moves, stand, lasts, history, positions}
+use Rattle.replay.specs.Plain.{Event, Ask, event, close, Plain, Hop, jumped, hops, walked, closers, closerKinds, endings, begins, start, withFlag, answer, accept, ask, run, moves, stand, lasts, history, positions}
 use Rattle.replay.specs.Counts.{leaps, transfers, consumed, jumpsIn, jumpsOut, pairJumps, fired, jumps}
 use Rattle.replay.specs.State.{stateOf, hopIndex, storedConsumed, storedPair, storedJumpsIn, storedJumpsOut, storedTransfers}
 use Rattle.replay.specs.Sound.{OnKind}
 use Rattle.replay.proofs.Tally.{tallied}
-use Rattle.replay.proofs.Accepted.{Fitting, accepted, Registered, GoodHop, hops-good, course-good, course-sum, begins-on, endings-good, endings-sum}
+use Rattle.replay.proofs.Accepted.{Fitting, accepted, Registered, GoodHop, hops-good, course-good, course-sum, begins-on, endings-good, closers-kinds, endings-sum}
 
 -- what holds of every state that a started run reaches
 pub record Reached (N : Net) (p : Plain) : Type 0 where
@@ -132,12 +132,12 @@ module _ (N : Net) (L : Loaded N) (p : Plain) (R : Reached N p) where
   moves-sum : (v : ℕ → ℕ) → total (λ (h : Hop). v (h .to)) (moves N p) ≡ total (λ (e : Event). total (λ (x : Arc). v (x .0)) (N .arcs (e .act))) (p .events)
   moves-sum v = course-sum N L (p .kinds) (R .register .kinds) (λ (a t : ℕ). v t) (p .events) (begins N (p .kinds)) (R .fits)
 
-  lasts-sum : (v : ℕ → ℕ) → total (λ (h : Hop). v (h .to)) (lasts N p) ≡ p .closed * total (λ (k : ℕ). v (N .sink k)) (p .kinds)
-  lasts-sum v = by-flag (λ (p : Plain). total (λ (h : Hop). v (h .to)) (lasts N p) ≡ p .closed * total (λ (k : ℕ). v (N .sink k)) (p .kinds)) p (R .flag)
+  lasts-sum : (v : ℕ → ℕ) → total (λ (h : Hop). v (h .to)) (lasts N p) ≡ p .closed * total (λ (k : ℕ). v (N .sink k)) (closerKinds (p .kinds))
+  lasts-sum v = by-flag (λ (p : Plain). total (λ (h : Hop). v (h .to)) (lasts N p) ≡ p .closed * total (λ (k : ℕ). v (N .sink k)) (closerKinds (p .kinds))) p (R .flag)
       (omega arith) (omega (arith, endings-sum N (p .kinds) v (stand N p)))
 
   history-sum : (v : ℕ → ℕ) → total (λ (h : Hop). v (h .to)) (history N p)
-      ≡ sumTo (N .acts) (λ (a : ℕ). getD (stateOf N p .fired) a 0 * total (λ (x : Arc). v (x .0)) (N .arcs a)) + p .closed * total (λ (k : ℕ). v (N .sink k)) (p .kinds)
+      ≡ sumTo (N .acts) (λ (a : ℕ). getD (stateOf N p .fired) a 0 * total (λ (x : Arc). v (x .0)) (N .arcs a)) + p .closed * total (λ (k : ℕ). v (N .sink k)) (closerKinds (p .kinds))
   history-sum v = omega (arith, total-append (λ (h : Hop). v (h .to)) (moves N p) (lasts N p), moves-sum v, fired-sum (λ (a : ℕ). total (λ (x : Arc). v (x .0)) (N .arcs a)), lasts-sum v)
 
   pub consumed-is : (q : ℕ) → storedConsumed N (stateOf N p) q ≡ consumed N p q
@@ -148,7 +148,7 @@ module _ (N : Net) (L : Loaded N) (p : Plain) (R : Reached N p) where
     arith,
     total-length (history N p),
     history-sum (λ (t : ℕ). 1),
-    ap (λ (n : ℕ). p .closed * n) (total-length (p .kinds)),
+    ap (λ (n : ℕ). p .closed * n) (total-length (closerKinds (p .kinds)) ∙ length-map (closers (p .kinds)) (λ (o : ℕ). getD (p .kinds) o 0)),
     sumTo-same (N .acts) (λ (a : ℕ). getD (stateOf N p .fired) a 0 * total (λ (x : Arc). 1) (N .arcs a)) (λ (a : ℕ). getD (stateOf N p .fired) a 0 * length (N .arcs a))
         (λ a h. ap (λ (n : ℕ). getD (stateOf N p .fired) a 0 * n) (total-length (N .arcs a))),
   )
@@ -161,7 +161,7 @@ module _ (N : Net) (L : Loaded N) (p : Plain) (R : Reached N p) where
     total-append (λ (h : Hop). 1) (moves N p) (lasts N p),
     moves-sum (λ (t : ℕ). 1),
     lasts-sum (λ (t : ℕ). 1),
-    ap (λ (n : ℕ). p .closed * n) (total-length (p .kinds)),
+    ap (λ (n : ℕ). p .closed * n) (total-length (closerKinds (p .kinds)) ∙ ap length (closers-kinds (p .kinds))),
     total-same (Fitting N (p .kinds)) (λ (e : Event). total (λ (x : Arc). 1) (N .arcs (e .act))) (λ (e : Event). length (e .objs)) (p .events) (R .fits) (λ e t. total-length (N .arcs (e .act)) ∙ sym (t .size)),
   )
 

@@ -15,6 +15,7 @@ use Rattle.net.specs.Net.{Net, Loaded}
 use Rattle.replay.specs.State.{State, stateFrom, withFired, withJumps}
 use Rattle.replay.specs.Sound.{Sound}
 use Rattle.replay.specs.Record.{counts, countsSize, kindsAt, placesAt, countsAt, pairsAt, recordSize, contents, encode, recordWords, wordsFrom, tableIn, stateIn, Intact}
+use Rattle.replay.proofs.Accepted.{closers-length}
 use Rattle.replay.proofs.Interleave.{length-interleave, All-interleave, evens-interleave, odds-interleave}
 
 -- a number of 32 bits
@@ -68,13 +69,15 @@ module _ (N : Net) (L : Loaded N) (d : State) (S : Sound N d) where
   pub jumps-le : (a : ℕ) → a < N .acts → getD (d .jumps) a 0 ≤ 8000000
   jumps-le a h = omega (arith, jumps-eight a h, fired-le a h)
 
+  pub closing-few : d .closing ≤ 1024
+  closing-few = omega (arith, S .closing-le, closers-length (d .kinds), S .few)
+
   pub pairs-le : (i : ℕ) → i < N .places * N .places → getD (d .pairs) i 0 ≤ 8001024
   pairs-le i h = omega (
     arith,
     term-le (N .places * N .places) (λ (i : ℕ). getD (d .pairs) i 0) i h,
     S .pair-sum,
-    S .closing-le,
-    S .few,
+    closing-few,
     sumTo-le (N .acts) (λ (a : ℕ). getD (d .jumps) a 0) (λ (a : ℕ). getD (d .fired) a 0 * 8) jumps-eight,
     sumTo-mul (N .acts) 8 (λ (a : ℕ). getD (d .fired) a 0),
     S .fired-sum,
@@ -87,7 +90,7 @@ module _ (N : Net) (L : Loaded N) (d : State) (S : Sound N d) where
     (
       omega (arith, S .events),
       (
-        omega (arith, S .closing-le, S .few),
+        omega (arith, closing-few),
         All-interleave Fits (d .fired) (d .jumps)
             (All-of Fits 0 (d .fired) (λ a h. omega (arith, fired-le a (omega (arith, S .fired-size)))))
             (All-of Fits 0 (d .jumps) (λ a h. omega (arith, jumps-le a (omega (arith, S .jumps-size))))),

@@ -12,7 +12,7 @@ use borrow.Author.Tests.{eqb-false}
 use Rattle.words.specs.Lists.{pick, All, has, twice, upto}
 use Rattle.words.proofs.Lists.{clash, All-to, All-map, All-unmap, All-zip, any-none, map-at, upto-in, upto-all}
 use Rattle.net.specs.Net.{Net}
-use Rattle.replay.specs.Plain.{Event, Leg, Hop, hops, walked, kindsOf, leg, legs, ending, endings}
+use Rattle.replay.specs.Plain.{Event, Leg, Hop, hops, walked, kindsOf, closers, leg, legs, ending, endings}
 use Rattle.replay.specs.Claims.{judged, EventAtOnce, CloseAtOnce}
 use Rattle.replay.proofs.Accepted.{Fitting}
 
@@ -80,19 +80,21 @@ module _ (N : Net) (ks : List ℕ) where
   pub apart-endings : Apart (endings N ks)
   apart-endings = apart-upto (length ks) 0
 
-  -- the close leaves each object on its sink
-  pub all-sunk : (ps : List ℕ) → length ks ≤ length ps → (o : ℕ) → o < length ks → getD (walked ps (endings N ks)) o 0 ≡ N .sink (getD ks o 0)
-  all-sunk ps f o h = upto-all (λ (o : ℕ). getD (walked ps (endings N ks)) o 0 ≡ N .sink (getD ks o 0)) (length ks) 0 .0
-      (All-unmap (ending N ks) (λ (l : Leg). getD (walked ps (endings N ks)) (l .obj) 0 ≡ l .out) (upto (length ks) 0) (walked-own (endings N ks) ps apart-endings
-      (All-map (ending N ks) (λ (l : Leg). l .obj < length ps) (upto (length ks) 0) (All-to (λ (o : ℕ). o < 0 + length ks) (λ (o : ℕ). o < length ps) (λ o q. omega arith) (upto (length ks) 0) (upto-in (length ks) 0)))))
-      o (omega arith) (omega arith)
+  -- the close leaves each object that it takes on its sink
+  pub all-sunk : (ps : List ℕ) → length ks ≤ length ps → All (λ (o : ℕ). getD (walked ps (endings N ks)) o 0 ≡ N .sink (getD ks o 0)) (closers ks)
+  all-sunk ps f =
+      All-unmap (ending N ks) (λ (l : Leg). getD (walked ps (endings N ks)) (l .obj) 0 ≡ l .out) (closers ks) (walked-own (endings N ks) ps apart-endings
+      (All-map (ending N ks) (λ (l : Leg). l .obj < length ps) (closers ks) (All-to (λ (o : ℕ). o < 0 + length ks) (λ (o : ℕ). o < length ps) (λ o q. omega arith) (closers ks) (upto-in (length ks) 0))))
+
+  sunk-at : (ps : List ℕ) → length ks ≤ length ps → (o : ℕ) → o < length ks → getD (walked ps (endings N ks)) o 0 ≡ N .sink (getD ks o 0)
+  sunk-at ps f o h = upto-all (λ (o : ℕ). getD (walked ps (endings N ks)) o 0 ≡ N .sink (getD ks o 0)) (length ks) 0 .0 (all-sunk ps f) o (omega arith) (omega arith)
 
   module _ (ps : List ℕ) (size : length ps ≡ length ks) where
     pub close-at-once : CloseAtOnce N ks ps
     close-at-once = record {
       at-entry = judged-at-entry (endings N ks) ps apart-endings;
       leaves = ext-getD 0 (walked ps (endings N ks)) (map (N .sink) ks) (walked-size (endings N ks) ps ∙ size ∙ sym (length-map ks (N .sink)))
-          (λ o h. let l : o < length ks = omega (arith, walked-size (endings N ks) ps) in all-sunk ps (omega arith) o l ∙ sym (map-at (N .sink) 0 0 ks o l));
+          (λ o h. let l : o < length ks = omega (arith, walked-size (endings N ks) ps) in sunk-at ps (omega arith) o l ∙ sym (map-at (N .sink) 0 0 ks o l));
     }
 
     -- of an event whose objects are known, no two of one kind

@@ -14,7 +14,7 @@ use Rattle.words.specs.Lists.{pick, All, keep, one, total, sumTo}
 use Rattle.words.proofs.Lists.{All-to, All-map, All-keep, zeros-at}
 use Rattle.words.proofs.Sums.{total-map, total-same, total-zero, total-swap, total-length, total-const, sumTo-same, sumTo-add, sumTo-at, keep-le}
 use Rattle.net.specs.Net.{Net, Arc, Loaded}
-use Rattle.replay.specs.Plain.{Event, Ask, event, close, Plain, Hop, jumped, hops, walked, leg, legs, endings, refusal, start, run}
+use Rattle.replay.specs.Plain.{Event, Ask, event, close, Plain, Hop, jumped, hops, walked, closers, closerKinds, leg, legs, endings, refusal, start, run}
 use Rattle.replay.specs.Counts.{leaps, allJumps}
 use Rattle.replay.specs.State.{State, bump, tally, hopIndex, afterEvent, afterClose, startState, answerS, acceptS, askS, runS, stateOf, inputs, sunkOn, storedConsumed, storedJumpsIn, storedJumps}
 use Rattle.replay.specs.Sound.{OnKind, Sound}
@@ -157,11 +157,11 @@ module _ (N : Net) (L : Loaded N) (d : State) (S : Sound N d) where
     pairs-size = length-tally (map (hopIndex N) hs) (d .pairs) ∙ S .pairs-size;
     fired-sum = S .fired-sum;
     jumps-le = S .jumps-le;
-    closing-le = omega (arith, sym (total-length hs), few (λ (t : ℕ). 1), total-length (d .kinds));
+    closing-le = omega (arith, sym (total-length hs), few (λ (t : ℕ). 1), total-length (closerKinds (d .kinds)), length-map (closers (d .kinds)) (λ (o : ℕ). getD (d .kinds) o 0));
     closing-open = λ q. absurd (omega arith);
     pair-none = λ x y hx hy c. none-add N (d .pairs) (S .pairs-size) hs G x y hx hy c (S .pair-none x y hx hy c);
     pair-sum = omega (arith, sum-add N (d .pairs) (S .pairs-size) hs G, S .pair-sum, S .closing-open c);
-    in-le = λ q h. omega (arith, in-add N (d .pairs) (S .pairs-size) hs G q h, S .in-le q h, few (λ (t : ℕ). one (eqb q t)), ap (λ (n : ℕ). n * sunkOn N (d .kinds) q) c);
+    in-le = λ q h. omega (arith, in-add N (d .pairs) (S .pairs-size) hs G q h, S .in-le q h, few (λ (t : ℕ). one (eqb q t)), ap (λ (n : ℕ). n * sunkOn N (closerKinds (d .kinds)) q) c);
   }
     where
       g : All (GoodHop N) (hops (d .places) (endings N (d .kinds))) × OnKind N (d .kinds) (walked (d .places) (endings N (d .kinds)))
@@ -173,7 +173,7 @@ module _ (N : Net) (L : Loaded N) (d : State) (S : Sound N d) where
       G : All (Leapt N) hs
       G = All-keep (GoodHop N) jumped (hops (d .places) (endings N (d .kinds))) (g .0)
 
-      few : (v : ℕ → ℕ) → total (λ (h : Hop). v (h .to)) hs ≤ total (λ (k : ℕ). v (N .sink k)) (d .kinds)
+      few : (v : ℕ → ℕ) → total (λ (h : Hop). v (h .to)) hs ≤ total (λ (k : ℕ). v (N .sink k)) (closerKinds (d .kinds))
       few v = omega (arith, keep-le jumped (λ (h : Hop). v (h .to)) (hops (d .places) (endings N (d .kinds))), endings-sum N (d .kinds) v (d .places))
 
   sound-accept : (q : Ask) → answerS N d q ≡ 0 → Sound N (acceptS N d q)

@@ -10,11 +10,11 @@ use lib.ListN.{length, getD, length-map}
 use lib.Seq.{ext-getD}
 use lib.Dec.{eqb}
 use borrow.Author.Tests.{eq-eqb, ne-eqb}
-use Rattle.words.specs.Lists.{All, has, keep, one, total, upto}
-use Rattle.words.proofs.Lists.{clash, All-map, All-unmap, All-zip, map-at, upto-all}
+use Rattle.words.specs.Lists.{All, has, keep, one, total}
+use Rattle.words.proofs.Lists.{clash, All-map, All-unmap, All-zip, map-at}
 use Rattle.words.proofs.Sums.{total-append, total-keep, total-length}
 use Rattle.net.specs.Net.{Net, inputOf}
-use Rattle.replay.specs.Plain.{Event, Plain, withFlag, Leg, Hop, jumped, hops, walked, leg, legs, ending, endings, course, after, begins, moves, stand}
+use Rattle.replay.specs.Plain.{Event, Plain, withFlag, Leg, Hop, closers, jumped, hops, walked, leg, legs, ending, endings, course, after, begins, moves, stand}
 use Rattle.replay.specs.Counts.{allJumps}
 use Rattle.replay.specs.Permitted.{Leaves, FiringSequence, ended, fired, Permitted}
 use Rattle.replay.specs.Claims.{judged}
@@ -59,12 +59,11 @@ leaves-once N ks ps e qs rs A B = ext-getD 0 qs rs (A .size ∙ sym (B .size)) (
     go o false q = A .others o q ∙ sym (B .others o q)
 
 module _ (N : Net) (ks : List ℕ) where
-  ends-none : (ps : List ℕ) → leapt (hops ps (endings N ks)) ≡ 0 ↔ ((o : ℕ) → o < length ks → getD ps o 0 ≡ N .sink (getD ks o 0))
-  ends-none ps = let h = hops-none (endings N ks) ps (apart-endings N ks) in
-      let u = upto-all (λ (o : ℕ). getD ps o 0 ≡ N .sink (getD ks o 0)) (length ks) 0 in (
-        λ e o l. u .0 (All-unmap (ending N ks) (λ (l : Leg). getD ps (l .obj) 0 ≡ l .inp) (upto (length ks) 0) (h .0 e)) o (omega arith) (omega arith),
-        λ f. h .1 (All-map (ending N ks) (λ (l : Leg). getD ps (l .obj) 0 ≡ l .inp) (upto (length ks) 0) (u .1 (λ o z l. f o (omega arith)))),
-      )
+  ends-none : (ps : List ℕ) → leapt (hops ps (endings N ks)) ≡ 0 ↔ All (λ (o : ℕ). getD ps o 0 ≡ N .sink (getD ks o 0)) (closers ks)
+  ends-none ps = let h = hops-none (endings N ks) ps (apart-endings N ks) in (
+    λ z. All-unmap (ending N ks) (λ (l : Leg). getD ps (l .obj) 0 ≡ l .inp) (closers ks) (h .0 z),
+    λ a. h .1 (All-map (ending N ks) (λ (l : Leg). getD ps (l .obj) 0 ≡ l .inp) (closers ks) a),
+  )
 
   event-none : (e : Event) (ps : List ℕ) → Fitting N ks e → leapt (hops ps (legs N ks e)) ≡ 0 ↔ All (λ (o : ℕ). getD ps o 0 ≡ inputOf N (e .act) (getD ks o 0)) (e .objs)
   event-none e ps F = let h = hops-none (legs N ks e) ps (apart-legs N ks (e .act) (e .objs) (F .once)) in (

@@ -45,6 +45,13 @@ walked ps (l ∷ ls) = walked (set ps (l .obj) (l .out)) ls
 abbrev pub kindsOf : List ℕ → List ℕ → List ℕ
 kindsOf ks os = map (λ (o : ℕ). getD ks o 0) os
 
+-- who is taken at the close, by the register: every object; and their kinds
+abbrev pub closers : List ℕ → List ℕ
+closers ks = upto (length ks) 0
+
+abbrev pub closerKinds : List ℕ → List ℕ
+closerKinds ks = kindsOf ks (closers ks)
+
 -- a net, and the kind of each object (the register)
 module _ (N : Net) (ks : List ℕ) where
   -- an event's legs, object by object
@@ -54,12 +61,12 @@ module _ (N : Net) (ks : List ℕ) where
   abbrev pub legs : Event → List Leg
   legs e = map (leg (e .act)) (e .objs)
 
-  -- the close's legs: each object is taken from its sink, and stays there
+  -- the close's legs: each object that is taken is taken from its sink, and stays there
   abbrev pub ending : ℕ → Leg
   ending o = record { act = N .acts; obj = o; inp = N .sink (getD ks o 0); out = N .sink (getD ks o 0) }
 
   abbrev pub endings : List Leg
-  endings = map ending (upto (length ks) 0)
+  endings = map ending (closers ks)
 
   -- where the objects stand at the start
   abbrev pub begins : List ℕ

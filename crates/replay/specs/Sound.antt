@@ -6,6 +6,7 @@ use mathlib.Core.List.{List}
 use lib.ListN.{length, getD}
 use Rattle.words.specs.Lists.{All, sumTo}
 use Rattle.net.specs.Net.{Net}
+use Rattle.replay.specs.Plain.{closers}
 use Rattle.replay.specs.State.{State, storedConsumed, storedPair, storedJumpsIn, storedMoved, storedJumps}
 
 -- each object stands on one place, of its own kind
@@ -20,7 +21,7 @@ pub record Sound (N : Net) (d : State) : Type 0 where
   pub kinds : All (λ (k : ℕ). k < N .kinds) (d .kinds)
   -- not 45
   pub on : OnKind N (d .kinds) (d .places)
-  pub sunk : d .closed ≡ 1 → (o : ℕ) → o < length (d .kinds) → getD (d .places) o 0 ≡ N .sink (getD (d .kinds) o 0)
+  pub sunk : d .closed ≡ 1 → All (λ (o : ℕ). getD (d .places) o 0 ≡ N .sink (getD (d .kinds) o 0)) (closers (d .kinds))
   -- not 46
   pub fired-size : length (d .fired) ≡ N .acts
   pub jumps-size : length (d .jumps) ≡ N .acts
@@ -28,7 +29,7 @@ pub record Sound (N : Net) (d : State) : Type 0 where
   pub events : d .events ≤ 1000000
   pub fired-sum : sumTo (N .acts) (λ (a : ℕ). getD (d .fired) a 0) ≡ d .events
   pub jumps-le : (a : ℕ) → a < N .acts → getD (d .jumps) a 0 ≤ storedMoved N d a
-  pub closing-le : d .closing ≤ length (d .kinds)
+  pub closing-le : d .closing ≤ length (closers (d .kinds))
   pub closing-open : d .closed ≡ 0 → d .closing ≡ 0
   -- not 47
   pub pairs-size : length (d .pairs) ≡ N .places * N .places

@@ -6,7 +6,7 @@ use lib.Dec.{eqb}
 use Rattle.words.specs.Lists.{pick, keep, one, total, sumTo}
 use Rattle.words.specs.Refusals.{first}
 use Rattle.net.specs.Net.{Net, Arc}
-use Rattle.replay.specs.Plain.{Event, Ask, event, close, Plain, Leg, Hop, jumped, hops, walked, legs, endings, begins, refusal, closeTests, moves, lasts, history, positions}
+use Rattle.replay.specs.Plain.{Event, Ask, event, close, Plain, Leg, Hop, jumped, hops, walked, closers, closerKinds, legs, endings, begins, refusal, closeTests, moves, lasts, history, positions}
 
 -- one more at index i
 abbrev pub bump : List ℕ → ℕ → List ℕ
@@ -158,13 +158,13 @@ module _ (N : Net) where
   abbrev pub inputs : ℕ → ℕ → ℕ
   inputs q a = total (λ (x : Arc). one (eqb q (x .0))) (N .arcs a)
 
-  -- how many of the objects have the sink q
+  -- how many objects of these kinds have the sink q
   abbrev pub sunkOn : List ℕ → ℕ → ℕ
   sunkOn ks q = total (λ (k : ℕ). one (eqb q (N .sink k))) ks
 
   -- The counts that are worked out from the stored ones. TAKEN of a place:
   abbrev pub storedConsumed : State → ℕ → ℕ
-  storedConsumed d q = sumTo (N .acts) (λ (a : ℕ). getD (d .fired) a 0 * inputs q a) + d .closed * sunkOn (d .kinds) q
+  storedConsumed d q = sumTo (N .acts) (λ (a : ℕ). getD (d .fired) a 0 * inputs q a) + d .closed * sunkOn (closerKinds (d .kinds)) q
 
   -- the jump count of a pair
   abbrev pub storedPair : State → ℕ → ℕ → ℕ
@@ -186,4 +186,4 @@ module _ (N : Net) where
   storedJumps d = sumTo (N .acts) (λ (a : ℕ). getD (d .jumps) a 0) + d .closing
 
   abbrev pub storedTransfers : State → ℕ
-  storedTransfers d = sumTo (N .acts) (λ (a : ℕ). storedMoved d a) + d .closed * length (d .kinds)
+  storedTransfers d = sumTo (N .acts) (λ (a : ℕ). storedMoved d a) + d .closed * length (closers (d .kinds))

@@ -16,10 +16,12 @@ use Rattle.words.specs.Refusals.{first}
 use Rattle.words.proofs.Refusals.{None}
 use Rattle.words.proofs.Sums.{term-le, sumTo-le, sumTo-mul}
 use Rattle.net.specs.Net.{Net, Arc, Loaded}
+use Rattle.replay.specs.Plain.{closers, closerKinds}
 use Rattle.replay.specs.State.{State, inputs, storedConsumed, storedPair, storedJumpsIn, storedJumpsOut, storedMoved, storedJumps, storedTransfers}
 use Rattle.replay.specs.Sound.{Sound}
 use Rattle.replay.specs.Calls.{netAt, stateAt}
-use Rattle.replay.proofs.Encode.{fired-le, jumps-le, pairs-le}
+use Rattle.replay.proofs.Accepted.{closers-length, closers-kinds}
+use Rattle.replay.proofs.Encode.{fired-le, jumps-le, closing-few, pairs-le}
 use Rattle.counts.specs.Reads.{placeTests, placeCode, actTests, actCode, pairTests, pairCode}
 use Rattle.text.proofs.DecimalLaws.{short}
 use Rattle.text.specs.Fitness.{fitness, fitnessText}
@@ -107,10 +109,10 @@ module _ (N : Net) (L : Loaded N) (d : State) (S : Sound N d) where
   moved-le a h = omega (arith, moved-sum, term-le (N .acts) (λ (a : ℕ). storedMoved N d a) a h)
 
   transfers-le : storedTransfers N d ≤ 8001024
-  transfers-le = omega (arith, moved-sum, mul-le-mul (S .flag) (S .few))
+  transfers-le = let f : length (closers (d .kinds)) ≤ 1024 = omega (arith, closers-length (d .kinds), S .few) in omega (arith, moved-sum, mul-le-mul (S .flag) f)
 
   all-jumps-le : storedJumps N d ≤ 8001024
-  all-jumps-le = omega (arith, moved-sum, sumTo-le (N .acts) (λ (a : ℕ). getD (d .jumps) a 0) (λ (a : ℕ). storedMoved N d a) (S .jumps-le), S .closing-le, S .few)
+  all-jumps-le = omega (arith, moved-sum, sumTo-le (N .acts) (λ (a : ℕ). getD (d .jumps) a 0) (λ (a : ℕ). storedMoved N d a) (S .jumps-le), closing-few N L d S)
 
   consumed-le : (q : ℕ) → storedConsumed N d q ≤ 8001024
   consumed-le q = omega (
@@ -118,7 +120,8 @@ module _ (N : Net) (L : Loaded N) (d : State) (S : Sound N d) where
     moved-sum,
     sumTo-le (N .acts) (λ (a : ℕ). getD (d .fired) a 0 * inputs N q a) (λ (a : ℕ). storedMoved N d a)
         (λ a h. mul-le-mul-left (getD (d .fired) a 0) (ones-le (λ (x : Arc). eqb q (x .0)) (N .arcs a))),
-    mul-le-mul (S .flag) (ones-le (λ (k : ℕ). eqb q (N .sink k)) (d .kinds)),
+    mul-le-mul (S .flag) (ones-le (λ (k : ℕ). eqb q (N .sink k)) (closerKinds (d .kinds))),
+    ap length (closers-kinds (d .kinds)),
     S .few,
   )
 

@@ -1,12 +1,13 @@
 -- The sum over what is passed. Assumes nothing.
 use Prim.Native.Nat.{ℕ, _+_, _*_, _-_, _≤_}
-use mathlib.Core.Path.{_≡_, refl, ap, ap₂, _∙_}
+use mathlib.Core.Path.{_≡_, refl, ap, ap₂, sym, _∙_}
 use native.Mathlib.Omega.{arith}
 use native.Mathlib.Nat.{mul-le-mul}
 use Rattle.words.specs.Lists.{sumTo}
 use Rattle.net.specs.Held.{netIn}
 use Rattle.replay.specs.State.{storedMoved}
 use Rattle.replay.specs.Calls.{stateAt}
+use Rattle.replay.proofs.Accepted.{closers-length}
 use Rattle.counts.proofs.CountLaws.{sum-step, moved-sum-few}
 use borrow.Author.Needs.{needs}
 use Rattle.counts.proofs.transfers.Statement.{statement}
@@ -71,7 +72,7 @@ returns c =
     let a = c .before .before .before .before .before .before .args in
     let l = c .before .before .before .loop in
     let e : l .a ≡ netIn (a .t .now) .acts = omega (arith, l .inv .0, l .inv .1, c .before .before .loop-test .left) in
-    ap₂ (λ (s j : ℕ). s + j) (l .inv .2 ∙ ap (λ (k : ℕ). sumTo k (λ (i : ℕ). storedMoved (netIn (a .t .now)) (stateAt (a .rec .now)) i)) e) (ap₂ (λ (s j : ℕ). s * j) (c .before .closed .ensures .0) (c .objects .ensures .0))
+    ap₂ (λ (s j : ℕ). s + j) (l .inv .2 ∙ ap (λ (k : ℕ). sumTo k (λ (i : ℕ). storedMoved (netIn (a .t .now)) (stateAt (a .rec .now)) i)) e) (ap₂ (λ (s j : ℕ). s * j) (c .before .closed .ensures .0) (c .objects .ensures .0 ∙ sym (closers-length (stateAt (a .rec .now) .kinds))))
 
 pub transfers-spec : {M : Type 1} → statement M
 transfers-spec =
