@@ -70,8 +70,8 @@ pub fn put_behind(s: &mut [u8], base: usize, i: usize, x: u32)
     requires { ⌜ base + i < length (wordsOf (now s)) ⌝ }
     ensures { λ _. ⌜ Put (now (s .entry)) (base + i) x (now (s .exit)) ⌝ }
 {
-    let from = 4 * base;
-    put_word(&mut s[from..], i, x);
+    let start = 4 * base;
+    put_word(&mut s[start..], i, x);
 }
 
 // What the n pairs at the front of a file say of its bodies; `laid_out`, the layout test of tables and records, asks it.

@@ -2,7 +2,7 @@
 use Prim.Native.Nat.{_+_, _*_, _-_, _<_}
 use mathlib.Core.Path.{_∙_}
 use native.Mathlib.Omega.{arith}
-use lib.ListN.{length, length-take, length-drop}
+use lib.ListN.{length, drop, length-take, length-drop}
 use lib.Seq.{getD-take, getD-drop}
 use borrow.Author.Needs.{needs}
 use Rattle.net.proofs.HeldLaws.{held-loaded, held-sized, index-at}
@@ -44,7 +44,8 @@ returns c =
     let s = c .before .before .before .before in
     let w = s .args .t .now in
     let inside : s .args .k < length w - (1172 + 8 * s .args .a) = omega (arith, held-loaded w (s .pre .0) .acts-le, held-loaded w (s .pre .0) .kinds-le, held-sized w (s .pre .0) .size, s .pre .1) in
-    c .wide .ensures ∙ rw (getD-take, getD-drop) (index-at w (s .pre .0) (s .args .a) (s .args .k) (s .pre .1 .0) (s .pre .1 .1))
+    c .wide .ensures ∙ getD-take (length w - (1172 + 8 * s .args .a)) (drop (1172 + 8 * s .args .a) w) (s .args .k) 0 inside ∙ getD-drop (1172 + 8 * s .args .a) w (s .args .k) 0
+    ∙ index-at w (s .pre .0) (s .args .a) (s .args .k) (s .pre .1 .0) (s .pre .1 .1)
 
 pub arc-word-spec : {M : Type 1} → statement M
 arc-word-spec =

@@ -5,8 +5,8 @@ use Rattle.words.proofs.Behind.{part-in, part-has, part-put}
 use Rattle.words.proofs.put_behind.Statement.{statement}
 use Rattle.words.proofs.put_behind.Tie as tie
 
-mul-from : tie.Need-mul-from
-mul-from c = let s = c .before in omega (arith, part-in (s .args .s .now) (s .args .base) (s .args .i) (s .pre))
+mul-start : tie.Need-mul-start
+mul-start c = let s = c .before in omega (arith, part-in (s .args .s .now) (s .args .base) (s .args .i) (s .pre))
 
 sub-put-word : tie.Need-sub-put-word
 sub-put-word c = let s = c .before in part-in (s .args .s .now) (s .args .base) (s .args .i) (s .pre)
@@ -30,7 +30,7 @@ pub put-behind-spec : {M : Type 1} → statement M
 put-behind-spec =
     tie.close
     (tie.spec
-    mul-from
+    mul-start
     sub-put-word
     part-put-word-start
     part-put-word-end
