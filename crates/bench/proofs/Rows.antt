@@ -13,7 +13,7 @@ use Rattle.replay.specs.Plain.{Ask}
 use Rattle.replay.specs.Calls.{askCode, askBytes}
 use Rattle.replay.specs.Ready.{Ready}
 use Rattle.replay.proofs.Calls.{ready-asked}
-use Rattle.events.specs.Answers.{askEvent}
+use Rattle.replay_event.specs.Answers.{askEvent}
 use Rattle.bench.specs.Bench.{rowSize, rowAt, rowsOf, eventsIn, accepted, carried}
 
 -- the bytes of the objects of the row at number `at`, and its event

@@ -7,8 +7,8 @@ use Rattle.words.specs.Lists.{pick}
 use Rattle.words.specs.Words.{wordsOf}
 use Rattle.replay.specs.Plain.{Ask}
 use Rattle.replay.specs.Calls.{askCode, askBytes}
-use Rattle.events.specs.Answers.{askEvent}
-use Rattle.lent.specs.OnTrail.{onTrail, leftBy}
+use Rattle.replay_event.specs.Answers.{askEvent}
+use Rattle.client_check.specs.OnTrail.{onTrail, leftBy}
 
 -- the row of an event at the front of the numbers: activity, count, objects
 abbrev pub rowSize : List ℕ → ℕ

@@ -1,7 +1,7 @@
 // For measuring alone: the events of a trail file's body on a trail that is taken up once. No part of the marking client.
 
-use answers::event_code;
-use lent::check::checked;
+use client_answers::event_code;
+use client_check::check::checked;
 use words::get_word;
 use words::wide;
 ghost use mathlib.Core.Path.{_≡_};
@@ -20,7 +20,7 @@ fn put_row(trail: &mut [u8], t: &[u32; 1684], events: &[u8], at: usize, count: u
 {
     let from = 4 * (at + 2);
     let to = from + 4 * count;
-    event_code(events::event::event(trail, t, get_word(events, at), &events[from..to]))
+    event_code(replay_event::event::event(trail, t, get_word(events, at), &events[from..to]))
 }
 
 // Carries out the events up to the body's end, a row that is cut off or a refusal, and gives how many were accepted.

@@ -11,9 +11,9 @@ use Rattle.replay.specs.Calls.{askCode, askBytes}
 use Rattle.checkpoint.specs.Restore.{restoreSecond}
 use Rattle.checkpoint.specs.Calls.{saveCode, saveBytes}
 use Rattle.checkpoint.specs.Take.{takeTests, takeCode}
-use Rattle.answers.specs.Answers.{packed, wrote}
-use Rattle.lent.specs.Checked.{Checked}
-use Rattle.lent.proofs.Checks.{stop-answer, stop-bytes, go-answer, go-bytes}
+use Rattle.client_answers.specs.Answers.{packed, wrote}
+use Rattle.client_check.specs.Checked.{Checked}
+use Rattle.client_check.proofs.Checks.{stop-answer, stop-bytes, go-answer, go-bytes}
 use Rattle.client.specs.Client.{askAnswer, askLeaves, restoreAnswer, saveAnswer, saveLeaves}
 
 module _ (b w : List ℕ) (r : ℕ) (C : Checked b w r) where

@@ -24,8 +24,8 @@ use Rattle.replay.specs.Sound.{Sound}
 use Rattle.replay.specs.Calls.{askCode, askBytes, startRecord}
 use Rattle.replay.proofs.Records.{code-at, step-at, sound-at}
 use Rattle.replay.proofs.Theorems.{sound-reached}
-use Rattle.events.specs.Answers.{askEvent}
-use Rattle.closing.specs.Answers.{askClose}
+use Rattle.replay_event.specs.Answers.{askEvent}
+use Rattle.replay_close.specs.Answers.{askClose}
 use Rattle.checkpoint.specs.Restore.{restoreTests, restoreCode}
 use Rattle.checkpoint.specs.Take.{takeCode, takeBytes}
 use Rattle.checkpoint.specs.Calls.{saveCode, saveBytes, callBytes, saves, asked}
@@ -33,8 +33,8 @@ use Rattle.checkpoint.specs.Calls as list
 use Rattle.checkpoint.specs.Demand.{plainRecord, plainSaves, Demand3}
 use Rattle.checkpoint.specs.Demand as Demand
 use Rattle.checkpoint.proofs.Demands.{Last, restores-at, last-ask, last-save, back, demand-three}
-use Rattle.answers.specs.Answers.{packed, number, wrote}
-use Rattle.lent.specs.Objects.{objectsIn}
+use Rattle.client_answers.specs.Answers.{packed, number, wrote}
+use Rattle.client_check.specs.Objects.{objectsIn}
 use Rattle.client.specs.Client.{startAnswer, askAnswer, askLeaves, restoreAnswer, saveAnswer, saveLeaves}
 use Rattle.client.specs.CallList.{Call, event, close, save, restore, answer, taken, wroteBy, next, Given, answers, trail, written, Fair, Undamaged, meant, plainAnswers, startedBy, FairList, FromC}
 use Rattle.client.proofs.MaxRecordHolds.{room-saves}

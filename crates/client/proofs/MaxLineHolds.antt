@@ -11,15 +11,15 @@ use Rattle.words.proofs.Refusals.{first-le}
 use Rattle.net.proofs.Promise.{promise}
 use Rattle.replay.specs.Record.{tableIn}
 use Rattle.replay.specs.Calls.{netAt, stateAt}
-use Rattle.counts.specs.Reads.{placeTests, placeCode, actTests, actCode, pairTests, pairCode}
+use Rattle.replay_counts.specs.Reads.{placeTests, placeCode, actTests, actCode, pairTests, pairCode}
 use Rattle.checkpoint.specs.Restore.{restoreCode}
 use Rattle.checkpoint.proofs.Restored.{restored-loads, restored-sound}
 use Rattle.lines.specs.Answer.{lineCode}
 use Rattle.report.specs.TrailLines.{placeLineAt, actLineAt, jumpLineAt}
 use Rattle.report.specs.Lengths.{maxLine, HasRoom}
 use Rattle.report.proofs.LengthLaws.{has-room}
-use Rattle.answers.specs.Answers.{number}
-use Rattle.writing.specs.Writing.{writeAnswer}
+use Rattle.client_answers.specs.Answers.{number}
+use Rattle.client_write.specs.Writing.{writeAnswer}
 use Rattle.client.specs.MaxLine.{MaxLine}
 use Rattle.client.proofs.MaxRecordHolds.{restore-few}
 

@@ -10,7 +10,7 @@ use borrow.Author.Tests.{eq-eqb, ne-eqb, le-ltb}
 use Rattle.words.specs.Words.{wordsOf}
 use Rattle.words.proofs.Refusals.{first-le, first-then, first-stays}
 use Rattle.net.specs.Table.{netOf, loadCode}
-use Rattle.loader.proofs.LoadLaws.{code-le}
+use Rattle.net_loader.proofs.LoadLaws.{code-le}
 use Rattle.replay.specs.Plain.{registerTests, registerCode}
 use Rattle.replay.specs.Calls.{startRecord, startCode}
 use Rattle.checkpoint.specs.Restore.{restoreTests, restoreCode}
@@ -18,7 +18,7 @@ use Rattle.checkpoint.specs.Calls.{saveCode}
 use Rattle.checkpoint.specs.Take.{takeCode}
 use Rattle.checkpoint.proofs.Restored.{restored-le}
 use Rattle.checkpoint.proofs.Demands.{roomy}
-use Rattle.answers.specs.Answers.{number}
+use Rattle.client_answers.specs.Answers.{number}
 use Rattle.client.specs.Client.{beginCode, saveAnswer}
 use Rattle.client.specs.MaxRecord.{MaxRecord}
 use Rattle.client.proofs.Numbers.{start-number, start-le, save-number, restore-number}

@@ -15,7 +15,7 @@ use Rattle.words.proofs.Refusals.{none-apply, none-split, first-zero, first-le}
 use Rattle.net.specs.Net.{Loaded}
 use Rattle.net.specs.Table.{netOf, loadCode}
 use Rattle.net.proofs.Promise.{promise, table-size}
-use Rattle.loader.proofs.LoadLaws.{code-le}
+use Rattle.net_loader.proofs.LoadLaws.{code-le}
 use Rattle.replay.specs.Plain.{Ask, event, close, eventTests, closeTests, registerTests, registerCode}
 use Rattle.replay.specs.State.{startState}
 use Rattle.replay.specs.Calls.{netAt, stateAt, askCode, askBytes, startTests, startRecord, startCode}
@@ -25,8 +25,8 @@ use Rattle.replay.proofs.Encode.{encode-le}
 use Rattle.checkpoint.specs.Restore.{restoreCode}
 use Rattle.checkpoint.specs.Calls.{saveTests, saveCode, saveBytes}
 use Rattle.checkpoint.specs.Take.{takeTests, takeCode, takeBytes}
-use Rattle.resuming.proofs.Lent.{saved-front, restored-front}
-use Rattle.answers.specs.Answers.{packed, number, second, wrote}
+use Rattle.checkpoint_restore.proofs.Lent.{saved-front, restored-front}
+use Rattle.client_answers.specs.Answers.{packed, number, second, wrote}
 use Rattle.client.specs.Client.{beginCode, startAnswer, startLeaves, askAnswer, askLeaves, restoreAnswer, saveAnswer, saveLeaves}
 
 number-is : (n s : ℕ) → n ≤ 61 → number (packed n s) ≡ n

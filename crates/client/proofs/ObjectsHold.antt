@@ -17,15 +17,15 @@ use Rattle.net.proofs.Promise.{promise}
 use Rattle.replay.specs.Record.{tableIn}
 use Rattle.replay.specs.Plain.{Ask}
 use Rattle.replay.specs.Calls.{netAt, stateAt, askCode, askBytes}
-use Rattle.events.specs.Answers.{askEvent}
+use Rattle.replay_event.specs.Answers.{askEvent}
 use Rattle.checkpoint.specs.Restore.{restoreCode}
 use Rattle.checkpoint.proofs.Restored.{restored-loads}
-use Rattle.answers.specs.Answers.{packed}
-use Rattle.lent.specs.OnTrail.{onTrail}
-use Rattle.lent.specs.Objects.{objectsIn}
+use Rattle.client_answers.specs.Answers.{packed}
+use Rattle.client_check.specs.OnTrail.{onTrail}
+use Rattle.client_check.specs.Objects.{objectsIn}
 use Rattle.client.specs.Client.{askAnswer, askLeaves}
 use Rattle.client.specs.Objects.{unevenTests, ObjectsRule}
-use Rattle.lent.proofs.ObjectLaws.{rows-in, no-rows, many-rows}
+use Rattle.client_check.proofs.ObjectLaws.{rows-in, no-rows, many-rows}
 
 -- an activity has at most eight arcs, so that over eight objects give the first of 21 to 24
 module _ (b : List ℕ) (z : restoreCode b ≡ 0) (a : ℕ) (xs : List ℕ) (many : 8 < length xs) where

@@ -11,9 +11,9 @@ use Rattle.net.specs.Held.{netIn}
 use Rattle.replay.specs.Plain.{registerCode}
 use Rattle.replay.specs.Record.{countsSize}
 use Rattle.replay.specs.Calls.{startCode, startBytes}
-use Rattle.starting.specs.Startable.{Startable}
-use Rattle.starting.proofs.StartLaws.{table-few, objects-few, record-size}
-use Rattle.answers.specs.Answers.{packed}
+use Rattle.replay_start.specs.Startable.{Startable}
+use Rattle.replay_start.proofs.StartLaws.{table-few, objects-few, record-size}
+use Rattle.client_answers.specs.Answers.{packed}
 use Rattle.client.proofs.Numbers.{registers, start-le}
 use Rattle.client.specs.Client.{beginCode, startAnswer, startLeaves}
 

@@ -13,14 +13,14 @@ use Rattle.words.specs.Words.{wordsOf}
 use Rattle.net.specs.Table.{netOf}
 use Rattle.replay.specs.Plain.{Plain, start, run}
 use Rattle.replay.specs.Plain as P
-use Rattle.events.specs.Answers.{askEvent}
-use Rattle.closing.specs.Answers.{askClose}
+use Rattle.replay_event.specs.Answers.{askEvent}
+use Rattle.replay_close.specs.Answers.{askClose}
 use Rattle.checkpoint.specs.Take.{takeBytes}
 use Rattle.checkpoint.specs.Calls.{asks, saveCode, asked}
 use Rattle.checkpoint.specs.Calls as list
 use Rattle.checkpoint.specs.Demand.{plainRecord, plainSaves, Demand3}
-use Rattle.answers.specs.Answers.{packed, number, second, wrote}
-use Rattle.lent.specs.Objects.{objectsIn}
+use Rattle.client_answers.specs.Answers.{packed, number, second, wrote}
+use Rattle.client_check.specs.Objects.{objectsIn}
 use Rattle.client.specs.Client.{startAnswer, startLeaves, askAnswer, askLeaves, restoreAnswer, saveAnswer, saveLeaves}
 
 -- the front of lent bytes, as long as the answer says: conform.h tells the caller to cut it out

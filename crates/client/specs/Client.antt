@@ -11,8 +11,8 @@ use Rattle.replay.specs.Calls.{askCode, askBytes, startRecord, startCode}
 use Rattle.checkpoint.specs.Restore.{restoreSecond}
 use Rattle.checkpoint.specs.Calls.{saveCode, saveBytes}
 use Rattle.checkpoint.specs.Take.{takeCode}
-use Rattle.answers.specs.Answers.{packed, wrote}
-use Rattle.lent.specs.OnTrail.{onTrail, leftBy}
+use Rattle.client_answers.specs.Answers.{packed, wrote}
+use Rattle.client_check.specs.OnTrail.{onTrail, leftBy}
 
 -- loading
 unfoldable pub loadAnswer : List ℕ → ℕ

@@ -4,11 +4,11 @@ use Prim.Native.Nat.{ℕ, _≤_}
 use mathlib.Core.Path.{_≡_}
 use mathlib.Core.List.{List, []}
 use lib.ListN.{length}
-use Rattle.counts.specs.Reads.{placeTests, actTests, pairTests}
+use Rattle.replay_counts.specs.Reads.{placeTests, actTests, pairTests}
 use Rattle.report.specs.TrailLines.{trailLineAt, placeLineAt, actLineAt, jumpLineAt}
 use Rattle.report.specs.Lengths.{maxLine}
-use Rattle.answers.specs.Answers.{number}
-use Rattle.writing.specs.Writing.{writeAnswer}
+use Rattle.client_answers.specs.Answers.{number}
+use Rattle.client_write.specs.Writing.{writeAnswer}
 
 pub record MaxLine : Type 0 where
   pub trail-fits : (b lent : List ℕ) → maxLine ≤ length lent → number (writeAnswer b [] (trailLineAt b) lent) ≡ 61 → ⊥

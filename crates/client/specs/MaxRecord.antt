@@ -8,7 +8,7 @@ use Rattle.net.specs.Table.{netOf, loadCode}
 use Rattle.replay.specs.Plain.{registerCode}
 use Rattle.replay.specs.Calls.{startRecord}
 use Rattle.checkpoint.specs.Restore.{restoreCode}
-use Rattle.answers.specs.Answers.{number}
+use Rattle.client_answers.specs.Answers.{number}
 use Rattle.client.specs.Client.{startAnswer, restoreAnswer, saveAnswer}
 
 pub record MaxRecord : Type 0 where

@@ -9,10 +9,10 @@ use Rattle.words.specs.Refusals.{first}
 use Rattle.words.specs.Words.{wordsOf}
 use Rattle.replay.specs.Plain.{trailTests}
 use Rattle.replay.specs.Calls.{netAt, stateAt}
-use Rattle.events.specs.Answers.{askEvent}
-use Rattle.answers.specs.Answers.{packed}
-use Rattle.lent.specs.OnTrail.{onTrail}
-use Rattle.lent.specs.Objects.{objectsIn}
+use Rattle.replay_event.specs.Answers.{askEvent}
+use Rattle.client_answers.specs.Answers.{packed}
+use Rattle.client_check.specs.OnTrail.{onTrail}
+use Rattle.client_check.specs.Objects.{objectsIn}
 use Rattle.client.specs.Client.{askAnswer, askLeaves}
 
 -- 21 to 24, for an event of activity a with a list that cannot have one row for each arc

@@ -1,10 +1,10 @@
 // The calls behind the check of what is lent: a trail to which none of 41 to 47 applies, a table that loads.
 
-use answers::close_code;
-use answers::event_code;
-use answers::pack;
-use answers::start_code;
-use lent::objects::whole_rows;
+use client_answers::close_code;
+use client_answers::event_code;
+use client_answers::pack;
+use client_answers::start_code;
+use client_check::objects::whole_rows;
 ghost use mathlib.Core.Path.{_≡_};
 ghost use Prim.Native.Nat.{_≤_};
 ghost use lib.ListN.{length};
@@ -12,12 +12,12 @@ ghost use Rattle.words.specs.Words.{wordsOf};
 ghost use Rattle.net.specs.Held.{Tabled};
 ghost use Rattle.replay.specs.Calls.{askCode, askBytes};
 ghost use Rattle.replay.specs.Ready.{Ready};
-ghost use Rattle.starting.specs.Startable.{Startable};
-ghost use Rattle.events.specs.Answers.{askEvent};
-ghost use Rattle.closing.specs.Answers.{askClose};
+ghost use Rattle.replay_start.specs.Startable.{Startable};
+ghost use Rattle.replay_event.specs.Answers.{askEvent};
+ghost use Rattle.replay_close.specs.Answers.{askClose};
 ghost use Rattle.checkpoint.specs.Calls.{saveCode, saveBytes};
-ghost use Rattle.answers.specs.Answers.{packed, wrote};
-ghost use Rattle.lent.specs.Objects.{objectsIn};
+ghost use Rattle.client_answers.specs.Answers.{packed, wrote};
+ghost use Rattle.client_check.specs.Objects.{objectsIn};
 ghost use Rattle.client.specs.Client.{startAnswer, startLeaves};
 
 // An event whose objects are the numbers of the rows.
@@ -26,7 +26,7 @@ fn put_rows(trail: &mut [u8], t: &[u32; 1684], activity: u32, rows: &[u8]) -> u6
     ensures { λ r. ⌜ (r ≡ packed (askCode (now (trail .entry)) (askEvent activity (wordsOf (now (rows .entry))))) 0) × (now (trail .exit) ≡ askBytes (now (trail .entry)) (askEvent activity (wordsOf (now (rows .entry))))) ⌝ }
 {
     pack(
-        event_code(events::event::event(trail, t, activity, rows)),
+        event_code(replay_event::event::event(trail, t, activity, rows)),
         0,
     )
 }
@@ -47,14 +47,14 @@ pub fn put_close(trail: &mut [u8], t: &[u32; 1684]) -> u64
     requires { ⌜ Ready (now t) (now trail) ⌝ }
     ensures { λ r. ⌜ (r ≡ packed (askCode (now (trail .entry)) askClose) 0) × (now (trail .exit) ≡ askBytes (now (trail .entry)) askClose) ⌝ }
 {
-    pack(close_code(closing::close(trail, t)), 0)
+    pack(close_code(replay_close::close(trail, t)), 0)
 }
 
 pub fn put_save(trail: &[u8], lent: &mut [u8]) -> u64
     requires { ⌜ length (now trail) ≤ 29844 ⌝ }
     ensures { λ r. ⌜ (r ≡ wrote (saveCode (now (trail .entry)) (length (now (lent .entry)))) (length (now (trail .entry)))) × (now (lent .exit) ≡ saveBytes (now (trail .entry)) (now (lent .entry))) ⌝ }
 {
-    let code = checkpoint::saved_number(resuming::save(trail, lent));
+    let code = checkpoint::saved_number(checkpoint_restore::save(trail, lent));
     if code != 0 {
         return pack(code, 0);
     }
@@ -66,13 +66,13 @@ fn begin_rows(t: &[u32; 1684], table: &[u8], objects: &[u8], trail: &mut [u8]) -
     requires { ⌜ Startable (now t) (now table) (now objects) ⌝ }
     ensures { λ r. ⌜ (r ≡ startAnswer (now (table .entry)) (now (objects .entry)) (length (now (trail .entry)))) × (now (trail .exit) ≡ startLeaves (now (table .entry)) (now (objects .entry)) (now (trail .entry))) ⌝ }
 {
-    let code = start_code(starting::start(t, table, objects, trail));
+    let code = start_code(replay_start::start(t, table, objects, trail));
     if code != 0 {
         return pack(code, 0);
     }
     pack(
         0,
-        starting::record_bytes(t, table.len(), objects.len()) as u32,
+        replay_start::record_bytes(t, table.len(), objects.len()) as u32,
     )
 }
 

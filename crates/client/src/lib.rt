@@ -5,23 +5,23 @@ use crate::calls::begin;
 use crate::calls::put_close;
 use crate::calls::put_event;
 use crate::calls::put_save;
-use answers::pack;
-use lent::check::checked;
-use writing::Line;
-use writing::write_numbers;
-use writing::write_text;
+use client_answers::pack;
+use client_check::check::checked;
+use client_write::Line;
+use client_write::write_numbers;
+use client_write::write_text;
 ghost use mathlib.Core.Path.{_≡_};
 ghost use mathlib.Core.List.{[]};
 ghost use lib.ListN.{length};
-ghost use Rattle.events.specs.Answers.{askEvent};
-ghost use Rattle.closing.specs.Answers.{askClose};
-ghost use Rattle.counts.specs.Reads.{placeTests, actTests, pairTests};
+ghost use Rattle.replay_event.specs.Answers.{askEvent};
+ghost use Rattle.replay_close.specs.Answers.{askClose};
+ghost use Rattle.replay_counts.specs.Reads.{placeTests, actTests, pairTests};
 ghost use Rattle.checkpoint.specs.Take.{takeBytes};
 ghost use Rattle.report.specs.TrailLines.{trailLineAt, placeLineAt, actLineAt, jumpLineAt};
-ghost use Rattle.lent.specs.Objects.{objectsIn};
-ghost use Rattle.numbers.specs.Numbers.{trailNumbers, placeNumbers, actNumbers, pairNumbers};
+ghost use Rattle.client_check.specs.Objects.{objectsIn};
+ghost use Rattle.client_counts.specs.Numbers.{trailNumbers, placeNumbers, actNumbers, pairNumbers};
 ghost use Rattle.client.specs.Client.{loadAnswer, startAnswer, startLeaves, askAnswer, askLeaves, restoreAnswer, saveAnswer, saveLeaves};
-ghost use Rattle.writing.specs.Writing.{writeAnswer, writeLeaves};
+ghost use Rattle.client_write.specs.Writing.{writeAnswer, writeLeaves};
 
 mod calls;
 
@@ -31,7 +31,7 @@ pub extern "C" fn conform_load(table: &[u8]) -> u64
     ensures { λ r. ⌜ r ≡ loadAnswer (now (table .entry)) ⌝ }
 {
     let mut t = [0u32; 1684];
-    pack(net::number(loader::load_fresh(table, &mut t)), 0)
+    pack(net::number(net_loader::load_fresh(table, &mut t)), 0)
 }
 
 // Starts a trail: 1 to 9 of the table, 11 and 12 of the objects' kinds, and 61; or its record in front of the lent bytes.
@@ -41,7 +41,7 @@ pub extern "C" fn conform_start(table: &[u8], objects: &[u8], trail: &mut [u8]) 
     ensures { λ _. ⌜ now (trail .exit) ≡ startLeaves (now (table .entry)) (now (objects .entry)) (now (trail .entry)) ⌝ }
 {
     let mut t = [0u32; 1684];
-    let refused = net::number(loader::load_fresh(table, &mut t));
+    let refused = net::number(net_loader::load_fresh(table, &mut t));
     if refused != 0 {
         return pack(refused, 0);
     }
@@ -82,7 +82,7 @@ pub extern "C" fn conform_restore(saved: &[u8], trail: &mut [u8]) -> u64
     ensures { λ r. ⌜ r ≡ restoreAnswer (now (saved .entry)) (length (now (trail .entry))) ⌝ }
     ensures { λ _. ⌜ now (trail .exit) ≡ takeBytes (now (saved .entry)) (now (trail .entry)) ⌝ }
 {
-    let r = resuming::restore(saved, trail);
+    let r = checkpoint_restore::restore(saved, trail);
     let refused = checkpoint::number(r);
     if refused != 0 {
         return pack(refused, checkpoint::second(r));

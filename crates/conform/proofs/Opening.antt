@@ -13,13 +13,13 @@ use Rattle.net.specs.Held.{netIn, Tabled}
 use Rattle.replay.specs.Plain.{registerCode}
 use Rattle.replay.specs.State.{State}
 use Rattle.replay.specs.Calls.{startRecord, startBytes}
-use Rattle.starting.specs.Startable.{Startable}
-use Rattle.starting.proofs.Begun.{ready-start, state-start, start-front, start-fits}
-use Rattle.starting.proofs.StartLaws.{taken}
-use Rattle.opening.specs.declared.Contents.the-variants.{Bodies}
-use Rattle.opening.specs.Opening.{contentsTests, contentsOf, openCode}
-use Rattle.opening.proofs.OpenLaws.{contents-bodies, not-refused}
-use Rattle.following.specs.Follows.{Follows}
+use Rattle.replay_start.specs.Startable.{Startable}
+use Rattle.replay_start.proofs.Begun.{ready-start, state-start, start-front, start-fits}
+use Rattle.replay_start.proofs.StartLaws.{taken}
+use Rattle.trace_header.specs.declared.Contents.the-variants.{Bodies}
+use Rattle.trace_header.specs.Opening.{contentsTests, contentsOf, openCode}
+use Rattle.trace_header.proofs.OpenLaws.{contents-bodies, not-refused}
+use Rattle.program_events.specs.Follows.{Follows}
 
 -- a register claims whole rows
 pub whole-rows : (f : List ℕ) (r e : ℕ) → contentsOf f ≡ Bodies r e → r % 4 ≡ 0

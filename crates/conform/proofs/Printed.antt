@@ -19,8 +19,8 @@ use Rattle.replay.proofs.Records.{net-at, state-at}
 use Rattle.replay.proofs.Theorems.{sound-reached, counts-agree}
 use Rattle.report.specs.Report.{reportOf, reportAt}
 use Rattle.report.proofs.ReportLaws.{report-agrees}
-use Rattle.opening.specs.Opening.{shapeTests, registerOf, traceCode}
-use Rattle.following.proofs.Runs.{plain-run}
+use Rattle.trace_header.specs.Opening.{shapeTests, registerOf, traceCode}
+use Rattle.program_events.proofs.Runs.{plain-run}
 use Rattle.conform.specs.Program.{readIn, cameOf, eventsText, programText, PrintsPlain}
 
 module _ (table f : List ℕ) (good : loadCode table ≡ 0) (opens : traceCode (netOf table) f ≡ 0) where

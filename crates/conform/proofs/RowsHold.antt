@@ -10,9 +10,9 @@ use Rattle.text.specs.Fitness.{thousandths, fitness}
 use Rattle.lines.specs.Lines.{lineOf}
 use Rattle.report.specs.TrailLines.{trailLineAt, placeLineAt, actLineAt, jumpLineAt}
 use Rattle.report.specs.Report.{reportAt}
-use Rattle.opening.specs.Opening.{registerOf, traceCode}
-use Rattle.tracefile.specs.Trace.{readFrom}
-use Rattle.following.specs.Followed.{followed, final, closedAfter}
+use Rattle.trace_header.specs.Opening.{registerOf, traceCode}
+use Rattle.trace_reader.specs.Trace.{readFrom}
+use Rattle.program_events.specs.Followed.{followed, final, closedAfter}
 use Rattle.conform.specs.Program.{eventsText, programText}
 use Rattle.conform.specs.Rows.{trailOf, fourth, rows, RowsHold}
 

@@ -17,19 +17,19 @@ use Rattle.net.specs.Held.{netIn}
 use Rattle.net.proofs.Promise.{promise}
 use Rattle.replay.specs.Calls.{startRecord}
 use Rattle.replay.specs.Ready.{Ready}
-use Rattle.starting.specs.Startable.{Startable}
+use Rattle.replay_start.specs.Startable.{Startable}
 use Rattle.lines.specs.Lines.{refusedLine}
 use Rattle.report.specs.Report.{reportAt}
-use Rattle.opening.specs.declared.Contents.the-variants.{Broken, Bodies}
-use Rattle.opening.specs.Opening.{contentsTests, contentsOf, registerOf, traceCode, openCode}
-use Rattle.opening.proofs.OpenLaws.{contents-bodies, head-there, open-broken, open-enough, head-enough, not-refused}
-use Rattle.opening.proofs.SameBytes.{ltb-same}
-use Rattle.printing.specs.declared.Ending.{Ending}
-use Rattle.printing.specs.declared.Ending.the-variants.{Report, Refused}
-use Rattle.printing.specs.Ending.{endingText, Printable}
-use Rattle.following.specs.Followed.{Followed, closedAfter, endingAfter, final}
-use Rattle.following.specs.Window.{Begins, OfSomeFile}
-use Rattle.following.proofs.Behind.{final-behind}
+use Rattle.trace_header.specs.declared.Contents.the-variants.{Broken, Bodies}
+use Rattle.trace_header.specs.Opening.{contentsTests, contentsOf, registerOf, traceCode, openCode}
+use Rattle.trace_header.proofs.OpenLaws.{contents-bodies, head-there, open-broken, open-enough, head-enough, not-refused}
+use Rattle.trace_header.proofs.SameBytes.{ltb-same}
+use Rattle.program_output.specs.declared.Ending.{Ending}
+use Rattle.program_output.specs.declared.Ending.the-variants.{Report, Refused}
+use Rattle.program_output.specs.Ending.{endingText, Printable}
+use Rattle.program_events.specs.Followed.{Followed, closedAfter, endingAfter, final}
+use Rattle.program_events.specs.Window.{Begins, OfSomeFile}
+use Rattle.program_events.proofs.Behind.{final-behind}
 use Rattle.conform.specs.Program.{eventsText, programText}
 use Rattle.conform.specs.FromFile.{FromFile, BehindContents, BehindRegister}
 

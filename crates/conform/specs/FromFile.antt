@@ -7,12 +7,12 @@ use lib.ListN.{length}
 use Rattle.words.specs.Words.{wordsOf}
 use Rattle.net.specs.Table.{netOf}
 use Rattle.replay.specs.Calls.{startRecord}
-use Rattle.opening.specs.declared.Contents.the-variants.{Bodies}
-use Rattle.opening.specs.Opening.{contentsOf}
-use Rattle.printing.specs.declared.Ending.{Ending}
-use Rattle.printing.specs.Ending.{endingText}
-use Rattle.following.specs.Followed.{Followed}
-use Rattle.following.specs.Window.{Begins, OfSomeFile}
+use Rattle.trace_header.specs.declared.Contents.the-variants.{Bodies}
+use Rattle.trace_header.specs.Opening.{contentsOf}
+use Rattle.program_output.specs.declared.Ending.{Ending}
+use Rattle.program_output.specs.Ending.{endingText}
+use Rattle.program_events.specs.Followed.{Followed}
+use Rattle.program_events.specs.Window.{Begins, OfSomeFile}
 use Rattle.conform.specs.Program.{eventsText, programText}
 
 -- r, with the bytes rec that are lent for the trail, has the text for the table and a trail file that begins with the bytes

@@ -11,9 +11,9 @@ use Rattle.net.specs.Table.{netOf, loadCode}
 use Rattle.replay.specs.Plain.{Event, event, close, start, run}
 use Rattle.lines.specs.Lines.{refusedLine}
 use Rattle.report.specs.Report.{reportOf, reportAt}
-use Rattle.opening.specs.Opening.{registerOf, traceCode}
-use Rattle.following.specs.Followed.{Followed, closedAfter}
-use Rattle.following.specs.Claims.{read, came}
+use Rattle.trace_header.specs.Opening.{registerOf, traceCode}
+use Rattle.program_events.specs.Followed.{Followed, closedAfter}
+use Rattle.program_events.specs.Claims.{read, came}
 
 -- once the events are read: the report of the closed trail, or the refusal of an event with the events accepted before it
 unfoldable pub eventsText : Followed → List ℕ

@@ -5,16 +5,16 @@
 // bytes handed in are the front (`specs/FromFile.antt`). That standard input is that file, and that what is given back is what is
 // written, no contract can say, and is tested.
 
-use following::follow;
-use input::has_arguments;
-use input::read_file;
-use input::read_some;
-use input::skip;
-use opening::Contents;
-use opening::opening_refusal;
-use opening::read_contents;
-use printing::Ending;
-use printing::print;
+use program_events::follow;
+use program_input::has_arguments;
+use program_input::read_file;
+use program_input::read_some;
+use program_input::skip;
+use program_output::Ending;
+use program_output::print;
+use trace_header::Contents;
+use trace_header::opening_refusal;
+use trace_header::read_contents;
 ghost use mathlib.Core.Path.{_≡_};
 ghost use mathlib.Core.List.{[]};
 ghost use Prim.Native.Nat.{_%_, _<_, _≤_};
@@ -23,10 +23,10 @@ ghost use Rattle.net.specs.Held.{netIn, Held, Tabled};
 ghost use Rattle.words.specs.Words.{wordsOf};
 ghost use Rattle.net.specs.Table.{netOf};
 ghost use Rattle.replay.specs.Plain.{registerCode};
-ghost use Rattle.starting.specs.Startable.{Startable};
-ghost use Rattle.opening.specs.Opening.{openCode};
-ghost use Rattle.printing.specs.declared.Ending.the-variants.{Refused};
-ghost use Rattle.printing.specs.Ending.{Printable};
+ghost use Rattle.replay_start.specs.Startable.{Startable};
+ghost use Rattle.trace_header.specs.Opening.{openCode};
+ghost use Rattle.program_output.specs.declared.Ending.the-variants.{Refused};
+ghost use Rattle.program_output.specs.Ending.{Printable};
 ghost use Rattle.conform.specs.FromFile.{FromFile, BehindContents, BehindRegister};
 
 // Room for the longest record.
@@ -61,8 +61,8 @@ fn begin(
     ensures text { λ r. ⌜ BehindRegister (now (table .entry)) (now (register .entry)) body (take n (now (buf .entry))) (length (now (buf .entry))) r (now (rec .exit)) ⌝ }
     ensures printable { λ r. ⌜ Printable (now (t .entry)) (now (rec .exit)) r ⌝ }
 {
-    starting::start(t, table, register, rec);
-    let size = starting::record_bytes(t, table.len(), register.len());
+    replay_start::start(t, table, register, rec);
+    let size = replay_start::record_bytes(t, table.len(), register.len());
     follow(&mut rec[..size], t, register, body, buf, n)
 }
 
@@ -188,7 +188,7 @@ fn decide(table: &[u8], t: &mut [u32; 1684], rec: &mut [u8]) -> Ending
     ensures text { λ r. ⌜ FromFile (now (table .entry)) [] 0 r (now (rec .exit)) ⌝ }
     ensures printable { λ r. ⌜ Printable (now (t .exit)) (now (rec .exit)) r ⌝ }
 {
-    let number = net::number(loader::load_fresh(table, t));
+    let number = net::number(net_loader::load_fresh(table, t));
     if number != 0 {
         return Ending::Refused {
             code: number,

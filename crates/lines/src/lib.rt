@@ -1,5 +1,5 @@
 // The lines of the report (the sheet) in lent bytes, by their numbers: each whole, or not at all where the part is shorter.
-// Above `text`, which writes their words and fields. `report` takes the numbers from a trail, `printing` writes refusals.
+// Above `text`, which writes their words and fields. `report` takes the numbers from a trail, `program_output` writes refusals.
 
 use text::field::Field;
 use text::field::Word;

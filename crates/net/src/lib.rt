@@ -1,5 +1,5 @@
 // The net: what it is, what loading promises of it, the answers of loading, and where its parts stand in lent words.
-// Above `words`. `places`, `arcs`, `routes` and `loader` test and fill the words, `look` reads them; the crates above use what `Held`
+// Above `words`. `net_places`, `net_arcs`, `net_routes` and `net_loader` test and fill the words, `net_lookup` reads them; the crates above use what `Held`
 // and `Loaded` promise, and never a table's bytes or the words' places.
 
 ghost use mathlib.Core.Path.{_≡_};

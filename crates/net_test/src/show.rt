@@ -131,19 +131,19 @@ fn put_words(t: &[u32; 1684]) {
 fn put_ends(t: &[u32; 1684], k: usize)
     requires { ⌜ Held (now t) ⌝ }
 {
-    if k < look::kinds(t) {
+    if k < net_lookup::kinds(t) {
         say(KIND, k);
-        say(FROM, look::source(t, k));
-        say(TO, look::sink(t, k));
+        say(FROM, net_lookup::source(t, k));
+        say(TO, net_lookup::sink(t, k));
     }
 }
 
 fn put_place(t: &[u32; 1684], p: usize)
     requires { ⌜ Held (now t) ⌝ }
 {
-    if p < look::places(t) {
+    if p < net_lookup::places(t) {
         say(PLACE, p);
-        say(OF, look::kind_of(t, p));
+        say(OF, net_lookup::kind_of(t, p));
     }
 }
 
@@ -152,11 +152,11 @@ fn put_arc(t: &[u32; 1684], a: usize, k: usize)
     requires { ⌜ Held (now t) ⌝ }
     requires { ⌜ a < netIn (now t) .acts ⌝ }
 {
-    if k < look::kinds(t) {
-        if look::takes_kind(t, a, k) {
+    if k < net_lookup::kinds(t) {
+        if net_lookup::takes_kind(t, a, k) {
             say(ARC, k);
-            say(FROM, look::input(t, a, k));
-            say(TO, look::output(t, a, k));
+            say(FROM, net_lookup::input(t, a, k));
+            say(TO, net_lookup::output(t, a, k));
         }
     }
 }
@@ -164,9 +164,9 @@ fn put_arc(t: &[u32; 1684], a: usize, k: usize)
 fn put_act(t: &[u32; 1684], a: usize)
     requires { ⌜ Held (now t) ⌝ }
 {
-    if a < look::acts(t) {
+    if a < net_lookup::acts(t) {
         say(ACT, a);
-        say(OF, look::arcs(t, a));
+        say(OF, net_lookup::arcs(t, a));
         let mut k = 0;
         while k < 8 {
             put_arc(t, a, k);
@@ -208,9 +208,9 @@ fn put_all(t: &[u32; 1684], what: u8, n: usize, whole: bool)
 fn put_sizes(t: &[u32; 1684])
     requires { ⌜ Held (now t) ⌝ }
 {
-    say(KINDS, look::kinds(t));
-    say(PLACES, look::places(t));
-    say(ACTS, look::acts(t));
+    say(KINDS, net_lookup::kinds(t));
+    say(PLACES, net_lookup::places(t));
+    say(ACTS, net_lookup::acts(t));
     phrase(ALL);
 }
 
@@ -219,16 +219,16 @@ fn put_net(t: &[u32; 1684], whole: bool)
     requires { ⌜ Held (now t) ⌝ }
 {
     put_sizes(t);
-    put_all(t, 0, look::kinds(t), whole);
-    put_all(t, 1, look::places(t), whole);
-    put_all(t, 2, look::acts(t), whole);
+    put_all(t, 0, net_lookup::kinds(t), whole);
+    put_all(t, 1, net_lookup::places(t), whole);
+    put_all(t, 2, net_lookup::acts(t), whole);
 }
 
 // Loads the table s, and writes the answer and what the words hold then.
 pub fn load(s: &[u8], whole: bool) {
     let mut t = [0u32; 1684];
     fill(&mut t);
-    let a = loader::load(s, &mut t);
+    let a = net_loader::load(s, &mut t);
     put_answer(a);
     match a {
         LoadAnswer::Taken => put_net(&t, whole),

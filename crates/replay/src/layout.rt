@@ -37,6 +37,6 @@ pub fn read_layout(rec: &[u8], t: &[u32; 1684]) -> Layout
         counts: quarter(rec, 24),
         jumps: quarter(rec, 32),
         objects: quarter(rec, 12),
-        places: look::places(t),
+        places: net_lookup::places(t),
     }
 }

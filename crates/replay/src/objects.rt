@@ -1,7 +1,7 @@
 // The tests 25 to 27 of an event's objects, which an event on a trail and an event in a trail file share.
 
 use crate::kinds::two_of_kind;
-use look::takes_kind;
+use net_lookup::takes_kind;
 use words::get_word;
 use words::wide;
 ghost use mathlib.Core.Bool.{not};

@@ -1,6 +1,6 @@
 // The refusals 11 and 12 of a register's bytes, which starting, taking up and opening a trail file share.
 
-use look::kinds;
+use net_lookup::kinds;
 use words::get_word;
 use words::wide;
 ghost use mathlib.Core.Path.{_≡_};

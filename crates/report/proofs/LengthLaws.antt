@@ -22,7 +22,7 @@ use Rattle.replay.specs.Sound.{Sound}
 use Rattle.replay.specs.Calls.{netAt, stateAt}
 use Rattle.replay.proofs.Accepted.{closers-length, closers-kinds}
 use Rattle.replay.proofs.Encode.{fired-le, jumps-le, closing-few, pairs-le}
-use Rattle.counts.specs.Reads.{placeTests, placeCode, actTests, actCode, pairTests, pairCode}
+use Rattle.replay_counts.specs.Reads.{placeTests, placeCode, actTests, actCode, pairTests, pairCode}
 use Rattle.text.proofs.DecimalLaws.{short}
 use Rattle.text.specs.Fitness.{fitness, fitnessText}
 use Rattle.text.specs.Fields.{wordText, fieldText}

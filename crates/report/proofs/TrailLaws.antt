@@ -8,13 +8,13 @@ use lib.Dec.{leb}
 use Rattle.words.specs.Lists.{pick}
 use Rattle.replay.specs.State.{storedPair}
 use Rattle.replay.specs.Calls.{netAt, stateAt}
-use Rattle.counts.specs.Reads.{placeRead, actRead, pairRead, trailRead}
-use Rattle.counts.specs.declared.PlaceCounts.{PlaceCounts}
-use Rattle.counts.specs.declared.PlaceRead.the-variants as place
-use Rattle.counts.specs.declared.ActCounts.{ActCounts}
-use Rattle.counts.specs.declared.ActRead.the-variants as act
-use Rattle.counts.specs.declared.PairRead.the-variants as pair
-use Rattle.counts.specs.declared.TrailCounts.{TrailCounts}
+use Rattle.replay_counts.specs.Reads.{placeRead, actRead, pairRead, trailRead}
+use Rattle.replay_counts.specs.declared.PlaceCounts.{PlaceCounts}
+use Rattle.replay_counts.specs.declared.PlaceRead.the-variants as place
+use Rattle.replay_counts.specs.declared.ActCounts.{ActCounts}
+use Rattle.replay_counts.specs.declared.ActRead.the-variants as act
+use Rattle.replay_counts.specs.declared.PairRead.the-variants as pair
+use Rattle.replay_counts.specs.declared.TrailCounts.{TrailCounts}
 use Rattle.lines.specs.Lines.{trailLine, placeLine, actLine, jumpLine}
 use Rattle.report.specs.TrailLines.{trailLineAt, placeLineAt, actLineAt, jumpLineAt}
 

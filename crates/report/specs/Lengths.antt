@@ -4,7 +4,7 @@ use mathlib.Core.Path.{_≡_}
 use mathlib.Core.List.{List, []}
 use lib.ListN.{length}
 use Rattle.replay.specs.Calls.{netAt}
-use Rattle.counts.specs.Reads.{placeTests, placeCode, actTests, actCode, pairTests, pairCode}
+use Rattle.replay_counts.specs.Reads.{placeTests, placeCode, actTests, actCode, pairTests, pairCode}
 use Rattle.lines.specs.Answer.{lineCode}
 use Rattle.report.specs.TrailLines.{trailLineAt, placeLineAt, actLineAt, jumpLineAt}
 

@@ -1,16 +1,16 @@
 // The lines of a trail, from its bytes: an unknown place (51) or activity (52) is refused before the lent part is looked at.
 
-use counts::ActRead;
-use counts::PairRead;
-use counts::PlaceRead;
-use counts::read_act;
-use counts::read_pair;
-use counts::read_place;
-use counts::read_trail;
 use lines::LineAnswer;
+use replay_counts::ActRead;
+use replay_counts::PairRead;
+use replay_counts::PlaceRead;
+use replay_counts::read_act;
+use replay_counts::read_pair;
+use replay_counts::read_place;
+use replay_counts::read_trail;
 ghost use mathlib.Core.List.{[]};
 ghost use Rattle.replay.specs.Ready.{Ready};
-ghost use Rattle.counts.specs.Reads.{placeTests, actTests, pairTests};
+ghost use Rattle.replay_counts.specs.Reads.{placeTests, actTests, pairTests};
 ghost use Rattle.lines.specs.Answer.{Writes};
 ghost use Rattle.report.specs.TrailLines.{trailLineAt, placeLineAt, actLineAt, jumpLineAt};
 

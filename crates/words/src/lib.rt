@@ -1,5 +1,5 @@
 // Four-byte numbers in byte slices, least significant byte first, and the layout of files that begin with contents pairs.
-// The lowest layer: all crates but `digits` and `input` use it, and it uses nothing.
+// The lowest layer: all crates but `digits` and `program_input` use it, and it uses nothing.
 
 ghost use mathlib.Core.Path.{_≡_};
 ghost use Prim.Native.Nat.{_+_, _*_, _<_, _≤_};

@@ -1,6 +1,6 @@
 -- A refused trail stops the call; else the answer is that of the events. Assumes nothing.
 use mathlib.Core.Path.{_∙_}
-use Rattle.lent.proofs.Checks.{stop-answer, stop-bytes, go-answer, go-bytes}
+use Rattle.client_check.proofs.Checks.{stop-answer, stop-bytes, go-answer, go-bytes}
 use Rattle.bench.specs.Bench.{eventsAnswer, eventsLeave}
 use borrow.Author.Needs.{needs}
 use Rattle.bench.proofs.conform_bench_events.Statement.{statement}

@@ -1,5 +1,5 @@
 -- A refused trail stops the call; else the answer is the call's own. Assumes nothing.
-use Rattle.closing.specs.Answers.{askClose}
+use Rattle.replay_close.specs.Answers.{askClose}
 use Rattle.client.proofs.Checks.{ask-stops, ask-goes}
 use borrow.Author.Needs.{needs}
 use Rattle.client.proofs.conform_close.Statement.{statement}

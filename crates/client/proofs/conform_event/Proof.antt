@@ -1,6 +1,6 @@
 -- A refused trail stops the call; else the answer is the call's own. Assumes nothing.
-use Rattle.events.specs.Answers.{askEvent}
-use Rattle.lent.specs.Objects.{objectsIn}
+use Rattle.replay_event.specs.Answers.{askEvent}
+use Rattle.client_check.specs.Objects.{objectsIn}
 use Rattle.client.proofs.Checks.{ask-stops, ask-goes}
 use borrow.Author.Needs.{needs}
 use Rattle.client.proofs.conform_event.Statement.{statement}

@@ -1,7 +1,7 @@
 -- The number of the table. Assumes nothing.
 use mathlib.Core.Path.{ap, _∙_}
 use Prim.Native.Nat.{ℕ}
-use Rattle.answers.specs.Answers.{packed}
+use Rattle.client_answers.specs.Answers.{packed}
 use Rattle.client.specs.Client.{loadAnswer}
 use borrow.Author.Needs.{needs}
 use Rattle.client.proofs.conform_load.Statement.{statement}

@@ -1,5 +1,5 @@
 -- A refused trail stops the call; else the answer is the save's own. Assumes nothing.
-use Rattle.lent.proofs.Checks.{few}
+use Rattle.client_check.proofs.Checks.{few}
 use Rattle.client.proofs.Checks.{save-stops, save-goes}
 use borrow.Author.Needs.{needs}
 use Rattle.client.proofs.conform_save.Statement.{statement}

@@ -5,8 +5,8 @@ use native.Mathlib.Omega.{arith}
 use lib.ListN.{length, take, drop, length-take}
 use Rattle.words.specs.Words.{wordsOf}
 use Rattle.replay.specs.Calls.{startRecord}
-use Rattle.starting.proofs.StartLaws.{table-few, objects-few, record-size}
-use Rattle.starting.proofs.Begun.{start-fits}
+use Rattle.replay_start.proofs.StartLaws.{table-few, objects-few, record-size}
+use Rattle.replay_start.proofs.Begun.{start-fits}
 use Rattle.conform.proofs.Opening.{started, started-follows}
 use Rattle.conform.proofs.Texts.{begun}
 use borrow.Author.Needs.{needs}

@@ -3,10 +3,10 @@ use mathlib.Core.Path.{ap, sym, subst, _∙_}
 use mathlib.Core.List.{[]}
 use native.Mathlib.Omega.{arith}
 use Rattle.net.specs.Net.{Net}
-use Rattle.opening.specs.Opening.{openCode}
-use Rattle.printing.specs.declared.Ending.{Ending}
-use Rattle.printing.specs.declared.Ending.the-variants.{Refused}
-use Rattle.printing.specs.Ending.{Printable}
+use Rattle.trace_header.specs.Opening.{openCode}
+use Rattle.program_output.specs.declared.Ending.{Ending}
+use Rattle.program_output.specs.declared.Ending.the-variants.{Refused}
+use Rattle.program_output.specs.Ending.{Printable}
 use Rattle.conform.specs.FromFile.{BehindContents}
 use Rattle.conform.proofs.Texts.{register-passed}
 use borrow.Author.Needs.{needs}

@@ -4,7 +4,7 @@ use lib.ListN.{length}
 use Rattle.words.specs.Words.{wordsOf}
 use Rattle.net.specs.Net.{Net}
 use Rattle.net.specs.Table.{netOf}
-use Rattle.opening.specs.Opening.{openCode}
+use Rattle.trace_header.specs.Opening.{openCode}
 use Rattle.conform.proofs.Opening.{register-startable}
 use Rattle.conform.proofs.Texts.{register-refused, register-taken}
 use borrow.Author.Needs.{needs}

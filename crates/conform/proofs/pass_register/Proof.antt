@@ -2,7 +2,7 @@
 use mathlib.Core.Path.{ap}
 use Prim.Native.Nat.{ℕ}
 use Rattle.words.specs.Words.{wordsOf}
-use Rattle.printing.specs.declared.Ending.the-variants.{Refused}
+use Rattle.program_output.specs.declared.Ending.the-variants.{Refused}
 use borrow.Author.Needs.{needs}
 use Rattle.conform.proofs.pass_register.Statement.{statement}
 use Rattle.conform.proofs.pass_register.Tie as tie

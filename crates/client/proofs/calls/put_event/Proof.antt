@@ -3,9 +3,9 @@ use mathlib.Core.Path.{_≡_, subst}
 use mathlib.Core.List.{List}
 use Prim.Native.Nat.{ℕ}
 use Rattle.replay.specs.Calls.{askCode, askBytes}
-use Rattle.events.specs.Answers.{askEvent}
-use Rattle.answers.specs.Answers.{packed}
-use Rattle.lent.proofs.ObjectLaws.{told-rows, told-nine}
+use Rattle.replay_event.specs.Answers.{askEvent}
+use Rattle.client_answers.specs.Answers.{packed}
+use Rattle.client_check.proofs.ObjectLaws.{told-rows, told-nine}
 use borrow.Author.Needs.{needs}
 use Rattle.client.proofs.calls.put_event.Statement.{statement}
 use Rattle.client.proofs.calls.put_event.Tie as tie

@@ -2,7 +2,7 @@
 -- Assumes nothing.
 use mathlib.Core.Path.{refl, ap, sym, _∙_}
 use native.Mathlib.Omega.{arith}
-use Rattle.counts.specs.Reads.{actTests, actCode, actReadCode}
+use Rattle.replay_counts.specs.Reads.{actTests, actCode, actReadCode}
 use Rattle.report.specs.TrailLines.{actLineAt}
 use Rattle.lines.specs.declared.LineAnswer.the-variants.{UnknownActivity}
 use Rattle.lines.proofs.LineLaws.{same-line, refused, passed}

@@ -2,7 +2,7 @@
 -- Assumes nothing.
 use mathlib.Core.Path.{refl, ap, sym, _∙_}
 use native.Mathlib.Omega.{arith}
-use Rattle.counts.specs.Reads.{pairTests, pairCode, pairReadCode}
+use Rattle.replay_counts.specs.Reads.{pairTests, pairCode, pairReadCode}
 use Rattle.report.specs.TrailLines.{jumpLineAt}
 use Rattle.lines.specs.declared.LineAnswer.the-variants.{UnknownPlace}
 use Rattle.lines.proofs.LineLaws.{same-line, refused, passed}

@@ -2,7 +2,7 @@
 -- Assumes nothing.
 use mathlib.Core.Path.{refl, ap, sym, _∙_}
 use native.Mathlib.Omega.{arith}
-use Rattle.counts.specs.Reads.{placeTests, placeCode, placeReadCode}
+use Rattle.replay_counts.specs.Reads.{placeTests, placeCode, placeReadCode}
 use Rattle.report.specs.TrailLines.{placeLineAt}
 use Rattle.lines.specs.declared.LineAnswer.the-variants.{UnknownPlace}
 use Rattle.lines.proofs.LineLaws.{same-line, refused, passed}

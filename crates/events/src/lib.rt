@@ -1,4 +1,0 @@
-// An event, carried out in place on a trail in lent bytes, or refused.
-// Above `moves`, which moves an object, and `replay`, whose tests it uses and whose definitions its contracts cite.
-
-pub mod event;

@@ -1,5 +1,0 @@
-// What C lends: a trail, which is checked before anything else, and an event's objects as bytes.
-// Above `answers` and the checkpoints.
-
-pub mod check;
-pub mod objects;

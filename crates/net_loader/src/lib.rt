@@ -1,0 +1,128 @@
+// Loading: a table file's bytes become a loaded net in words, or are refused with the first number from 1 to 9 that applies.
+// Above `net`, and `net_places`, `net_arcs` and `net_routes`, which have the tests 4 and 5, 6 and 7, 8 and 9.
+
+use crate::fill::copy_all;
+use crate::fill::copy_body;
+use crate::fill::put_sizes;
+use crate::index::index_arcs;
+use crate::refuse::refuse_arcs;
+use crate::refuse::refuse_front;
+use crate::shape::refuse_shape;
+use net::COUNTS;
+use net::INPUTS;
+use net::LoadAnswer;
+use net::PLACES;
+use net::SOURCES;
+ghost use mathlib.Core.Path.{_≡_};
+ghost use Prim.Native.Nat.{_≤_};
+ghost use lib.ListN.{length, replicate};
+ghost use Rattle.words.specs.Refusals.{first};
+ghost use Rattle.net.specs.Table.{shapeTests, loadCode};
+ghost use Rattle.net.specs.Held.{frontOver, loadedWords, afterLoad};
+ghost use Rattle.net.specs.Answer.{codeOf};
+
+mod fill;
+mod index;
+mod refuse;
+mod shape;
+
+// The sizes and the first three bodies of a table to which none of 1 to 3 applies.
+fn copy_front(s: &[u8], w: &mut [u32; 1684])
+    requires { ⌜ first (shapeTests (now s)) ≡ 0 ⌝ }
+    ensures { λ _. ⌜ now (w .exit) ≡ frontOver (now (s .entry)) (now (w .entry)) ⌝ }
+{
+    put_sizes(
+        w,
+        words::word_at(s, 4) / 8,
+        words::word_at(s, 12) / 4,
+        words::word_at(s, 20) / 4,
+        words::word_at(s, 28) / 8,
+    );
+    copy_body(s, 0, w, SOURCES);
+    copy_body(s, 1, w, PLACES);
+    copy_body(s, 2, w, COUNTS);
+}
+
+// A table to which none of 1 to 3 applies: 4 to 9, or 0 where it is loaded into the words, which are all zero.
+fn load_bodies(s: &[u8], t: &mut [u32; 1684]) -> u32
+    requires { ⌜ first (shapeTests (now s)) ≡ 0 ⌝ }
+    requires { ⌜ now t ≡ replicate 1684 0 ⌝ }
+    ensures { λ r. ⌜ (r ≡ loadCode (now (s .entry))) × (loadCode (now (s .entry)) ≡ 0 → now (t .exit) ≡ loadedWords (now (s .entry)) (now (t .entry))) ⌝ }
+{
+    copy_front(s, t);
+    let front = refuse_front(t);
+    if front != 0 {
+        return front;
+    }
+    copy_body(s, 3, t, INPUTS);
+    let arcs = refuse_arcs(t);
+    if arcs != 0 {
+        return arcs;
+    }
+    index_arcs(t);
+    0
+}
+
+fn load_code(s: &[u8], t: &mut [u32; 1684]) -> u32
+    requires { ⌜ now t ≡ replicate 1684 0 ⌝ }
+    ensures { λ r. ⌜ (r ≡ loadCode (now (s .entry))) × (loadCode (now (s .entry)) ≡ 0 → now (t .exit) ≡ loadedWords (now (s .entry)) (now (t .entry))) ⌝ }
+{
+    let r = refuse_shape(s);
+    if r != 0 {
+        return r;
+    }
+    load_bodies(s, t)
+}
+
+// The answer whose number is n.
+fn answer(n: u32) -> LoadAnswer
+    requires { ⌜ n ≤ 9 ⌝ }
+    ensures { λ r. ⌜ codeOf r ≡ n ⌝ }
+{
+    match n {
+        0 => LoadAnswer::Taken,
+        1 => LoadAnswer::Length,
+        2 => LoadAnswer::Layout,
+        3 => LoadAnswer::Size,
+        4 => LoadAnswer::PlaceKind,
+        5 => LoadAnswer::Ends,
+        6 => LoadAnswer::Arcs,
+        7 => LoadAnswer::ArcPlaces,
+        8 => LoadAnswer::TwoOfKind,
+        _ => LoadAnswer::Unreached,
+    }
+}
+
+// Loads a table file into words that are all zero. Where it is refused, nothing is said of them.
+pub fn load_fresh(s: &[u8], t: &mut [u32; 1684]) -> LoadAnswer
+    requires { ⌜ now t ≡ replicate 1684 0 ⌝ }
+    ensures { λ r. ⌜ (codeOf r ≡ loadCode (now (s .entry))) × (loadCode (now (s .entry)) ≡ 0 → now (t .exit) ≡ loadedWords (now (s .entry)) (now (t .entry))) ⌝ }
+{
+    let r = load_code(s, t);
+    answer(r)
+}
+
+fn words_of(t: [u32; 1684])
+    ensures { λ _. ⌜ length t ≡ 1684 ⌝ }
+{}
+
+// Lent words are as many as their type says: this does nothing, and is called for what it ensures.
+fn count_words(t: &[u32; 1684])
+    ensures { λ _. ⌜ length (now (t .entry)) ≡ 1684 ⌝ }
+{
+    words_of(*t);
+}
+
+// Loads a table file into lent words. Where it is refused the words stay as they are.
+pub fn load(s: &[u8], t: &mut [u32; 1684]) -> LoadAnswer
+    ensures { λ r. ⌜ (codeOf r ≡ loadCode (now (s .entry))) × (now (t .exit) ≡ afterLoad (now (s .entry)) (now (t .entry))) ⌝ }
+{
+    count_words(t);
+    let mut w = [0u32; 1684];
+    let r = load_fresh(s, &mut w);
+    if net::number(r) != 0 {
+        return r;
+    }
+    copy_all(&w, t);
+    r
+}

@@ -1,0 +1,55 @@
+// The close of a trail in lent bytes: refused with 31, or carried out in place.
+// Above `replay_moves`, which moves an object, and `replay`, whose definitions its contracts cite. The program and the C calls close by it.
+
+use replay::layout::Layout;
+use replay::layout::read_layout;
+use replay_moves::add;
+use replay_moves::move_object;
+ghost use mathlib.Core.Path.{_≡_};
+ghost use Rattle.words.specs.Words.{wordsOf};
+ghost use Rattle.net.specs.Held.{netIn};
+ghost use Rattle.replay.specs.Plain.{endings};
+ghost use Rattle.replay.specs.State.{closeJumps, afterLegs};
+ghost use Rattle.replay.specs.Record.{tableIn, recordWords};
+ghost use Rattle.replay.specs.Calls.{stateAt, askCode, askBytes};
+ghost use Rattle.replay.specs.Offsets.{layoutOf};
+ghost use Rattle.replay.specs.Ready.{Ready};
+ghost use Rattle.replay_close.specs.Answers.{closeCode, askClose};
+
+// The answer to a close. `closeCode` gives document 01's number.
+pub enum CloseAnswer {
+    Taken,
+    // 31: already closed.
+    AlreadyClosed,
+}
+
+// Every object jumps to its sink where it is not there, and is taken from it; the jumps are added once, behind the last object.
+fn sink_objects(rec: &mut [u8], t: &[u32; 1684], lay: Layout)
+    requires { ⌜ Ready (now t) (now rec) ⌝ }
+    requires { ⌜ lay ≡ layoutOf (netIn (now t)) (now rec) ⌝ }
+    ensures { λ _. ⌜ wordsOf (now (rec .exit)) ≡ recordWords (tableIn (now (rec .entry))) (afterLegs (netIn (now (t .entry))) closeJumps (stateAt (now (rec .entry))) (endings (netIn (now (t .entry))) (stateAt (now (rec .entry)) .kinds))) ⌝ }
+{
+    let mut o = 0;
+    let mut jumps = 0u32;
+    while o < lay.objects {
+        let k = words::get_word(rec, lay.register + o) as usize;
+        let sink = net_lookup::sink(t, k);
+        jumps += move_object(rec, lay, o, sink, sink as u32);
+        o += 1;
+    }
+    add(rec, lay.counts + 2, jumps);
+}
+
+// Closes a trail: it is closed already and nothing changes, or it is closed in the record's bytes.
+pub fn close(rec: &mut [u8], t: &[u32; 1684]) -> CloseAnswer
+    requires { ⌜ Ready (now t) (now rec) ⌝ }
+    ensures { λ r. ⌜ (closeCode r ≡ askCode (now (rec .entry)) askClose) × (now (rec .exit) ≡ askBytes (now (rec .entry)) askClose) ⌝ }
+{
+    let lay = read_layout(rec, t);
+    if words::get_word(rec, lay.counts) != 0 {
+        return CloseAnswer::AlreadyClosed;
+    }
+    sink_objects(rec, t, lay);
+    words::put_word(rec, lay.counts, 1);
+    CloseAnswer::Taken
+}

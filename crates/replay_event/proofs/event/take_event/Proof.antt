@@ -1,0 +1,54 @@
+-- `take_event` meets its contract: once the objects are moved, the events and FIRED of the activity are one more. Assumes nothing.
+use mathlib.Core.Path.{ap, _∙_}
+use mathlib.Core.List.{List}
+use Prim.Native.Nat.{ℕ, _+_, _*_}
+use native.Mathlib.Omega.{arith}
+use Rattle.replay.specs.State.{bump}
+use Rattle.replay_moves.proofs.Layouts.{counts-few}
+use Rattle.replay_event.proofs.Taken.{can-events, can-fired, event-counted}
+use borrow.Author.Needs.{needs}
+use Rattle.replay_event.proofs.event.take_event.Statement.{statement}
+use Rattle.replay_event.proofs.event.take_event.Tie as tie
+
+step-objects-requires : tie.Need-step-objects-requires
+step-objects-requires c κs = search needs
+
+add-add-one : tie.Need-add-add-one
+add-add-one c = let s = c .before .before .before .before .before .before .before .before in omega (arith, counts-few _ _ _ (s .pre .counted .ready) (s .pre .counted .lay), s .pre .counted .act-in)
+
+add-one-requires : tie.Need-add-one-requires
+add-one-requires c κs = rw (c .before .before .before .before .step-objects .ensures) (can-events _ _ _ _ _ (c .before .before .before .before .before .before .before .before .pre))
+
+mul-add-one : tie.Need-mul-add-one
+mul-add-one c = let s = c .before .before .before .before .before .before .before .before .before .before .before .before in omega (arith, counts-few _ _ _ (s .pre .counted .ready) (s .pre .counted .lay), s .pre .counted .act-in)
+
+add-add-one-2 : tie.Need-add-add-one-2
+add-add-one-2 c = let s = c .before .before .before .before .before .before .before .before .before .before .before .before in omega (arith, counts-few _ _ _ (s .pre .counted .ready) (s .pre .counted .lay), s .pre .counted .act-in)
+
+add-add-one-3 : tie.Need-add-add-one-3
+add-add-one-3 c = let s = c .before .before .before .before .before .before .before .before .before .before .before .before .before in omega (arith, counts-few _ _ _ (s .pre .counted .ready) (s .pre .counted .lay), s .pre .counted .act-in)
+
+add-one-requires-2 : tie.Need-add-one-requires-2
+add-one-requires-2 c κs = rw (c .before .before .before .before .add-one .ensures, c .before .before .before .before .before .before .before .before .before .step-objects .ensures) (can-fired _ _ _ _ _ (c .before .before .before .before .before .before .before .before .before .before .before .before .before .pre))
+
+same-length : tie.Need-same-length
+same-length c = search needs
+
+returns : tie.Need-returns
+returns c =
+    let s = c .before .before .before .before .before .before .before .before .before .before .before .before .before .before .before .before .args in
+    c .before .before .add-one2 .ensures ∙ ap (λ (v : List ℕ). bump v (s .lay .counts + (3 + 2 * s .act))) (c .before .before .before .before .before .before .before .add-one .ensures ∙ ap (λ (v : List ℕ). bump v (s .lay .counts + 1)) (c .before .before .before .before .before .before .before .before .before .before .before .before .step-objects .ensures)) ∙ event-counted _ _ _ _ _ (c .before .before .before .before .before .before .before .before .before .before .before .before .before .before .before .before .pre)
+
+pub take-event-spec : {M : Type 1} → statement M
+take-event-spec =
+    tie.close
+    (tie.spec
+    step-objects-requires
+    add-add-one
+    add-one-requires
+    mul-add-one
+    add-add-one-2
+    add-add-one-3
+    add-one-requires-2
+    same-length
+    returns)

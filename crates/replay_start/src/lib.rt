@@ -1,0 +1,185 @@
+// Starting a trail: its first record, written into lent bytes from a loaded table and the objects' kinds.
+// Above `net_lookup` and `replay`, whose definitions its contracts cite. The program and the C calls start by it.
+
+use replay::register::register_refusal;
+ghost use mathlib.Core.Path.{_≡_};
+ghost use mathlib.Core.List.{map};
+ghost use Prim.Native.Nat.{ℕ, _+_, _*_, _<_, _≤_};
+ghost use lib.ListN.{length, getD, set, replicate};
+ghost use lib.Seq.{sets};
+ghost use Rattle.words.specs.Lists.{All};
+ghost use Rattle.words.specs.Words.{wordsOf};
+ghost use Rattle.net.specs.Held.{netIn, Held};
+ghost use Rattle.net.specs.Table.{netOf};
+ghost use Rattle.replay.specs.Plain.{registerCode};
+ghost use Rattle.replay.specs.Record.{countsSize};
+ghost use Rattle.replay.specs.Calls.{startRecord, startCode, startBytes};
+ghost use Rattle.replay_start.specs.StartAnswers.{startAnswerCode};
+ghost use Rattle.replay_start.specs.Startable.{Startable, contentsOf};
+
+// The answer to starting. `startAnswerCode` gives document 01's number.
+pub enum StartAnswer {
+    Taken,
+    // 11: no objects or over 1,024.
+    Number,
+    // 12: unknown kind.
+    Kind,
+    // 61: the lent part is shorter than the record.
+    NoRoom,
+}
+
+// How many bytes the counts take.
+fn counts_bytes(t: &[u32; 1684]) -> usize
+    requires { ⌜ Held (now t) ⌝ }
+    ensures { λ r. ⌜ (r ≡ 4 * countsSize (netIn (now (t .entry)))) × (r ≤ 524) ⌝ }
+{
+    let n = net_lookup::acts(t);
+    4 * (3 + 2 * n)
+}
+
+// How many bytes the jump counts of all pairs of places take.
+fn pairs_bytes(t: &[u32; 1684]) -> usize
+    requires { ⌜ Held (now t) ⌝ }
+    ensures { λ r. ⌜ (r ≡ 4 * (netIn (now (t .entry)) .places * netIn (now (t .entry)) .places)) × (r ≤ 16384) ⌝ }
+{
+    let n = net_lookup::places(t);
+    4 * (n * n)
+}
+
+// How many bytes the record takes, by those of the table and of the register.
+pub fn record_bytes(t: &[u32; 1684], table: usize, objects: usize) -> usize
+    requires { ⌜ Held (now t) ⌝ }
+    requires { ⌜ (table ≤ 4704) × (objects ≤ 4096) ⌝ }
+    ensures { λ r. ⌜ r ≡ 40 + table + objects + objects + 4 * countsSize (netIn (now (t .entry))) + 4 * (netIn (now (t .entry)) .places * netIn (now (t .entry)) .places) ⌝ }
+{
+    40 + table + objects + objects + counts_bytes(t) + pairs_bytes(t)
+}
+
+// A contents pair, from number i on.
+fn put_pair(out: &mut [u8], i: usize, at: usize, size: usize)
+    requires { ⌜ i + 1 < length (wordsOf (now out)) ⌝ }
+    requires { ⌜ (at < 4294967296) × (size < 4294967296) ⌝ }
+    ensures { λ _. ⌜ wordsOf (now (out .exit)) ≡ set (set (wordsOf (now (out .entry))) i at) (i + 1) size ⌝ }
+{
+    words::put_word(out, i, at as u32);
+    words::put_word(out, i + 1, size as u32);
+}
+
+// The five contents pairs, by how many bytes each body takes.
+fn put_contents(out: &mut [u8], table: usize, objects: usize, counts: usize, pairs: usize)
+    requires { ⌜ 10 ≤ length (wordsOf (now out)) ⌝ }
+    requires { ⌜ (table ≤ 20000) × (objects ≤ 20000) × (counts ≤ 20000) × (pairs ≤ 20000) ⌝ }
+    ensures { λ _. ⌜ wordsOf (now (out .exit)) ≡ sets (wordsOf (now (out .entry))) 0 (contentsOf table objects counts pairs) ⌝ }
+{
+    let kinds = 40 + table;
+    let places = kinds + objects;
+    let tail = places + objects;
+    put_pair(out, 0, 40, table);
+    put_pair(out, 2, kinds, objects);
+    put_pair(out, 4, places, objects);
+    put_pair(out, 6, tail, counts);
+    put_pair(out, 8, tail + counts, pairs);
+}
+
+// The numbers of s, from number `base` on.
+fn copy_words(s: &[u8], out: &mut [u8], base: usize)
+    requires { ⌜ base + length (wordsOf (now s)) ≤ length (wordsOf (now out)) ⌝ }
+    ensures { λ _. ⌜ wordsOf (now (out .exit)) ≡ sets (wordsOf (now (out .entry))) base (wordsOf (now (s .entry))) ⌝ }
+{
+    let n = s.len() / 4;
+    let mut i = 0;
+    while i < n {
+        words::put_word(out, base + i, words::get_word(s, i));
+        i += 1;
+    }
+}
+
+// The source of an object's kind, the register's number i, as number `at`.
+fn put_source(t: &[u32; 1684], objects: &[u8], i: usize, out: &mut [u8], at: usize)
+    requires { ⌜ Held (now t) ⌝ }
+    requires { ⌜ All (λ (k : ℕ). k < netIn (now t) .kinds) (wordsOf (now objects)) ⌝ }
+    requires { ⌜ (i < length (wordsOf (now objects))) × (at < length (wordsOf (now out))) ⌝ }
+    ensures { λ _. ⌜ wordsOf (now (out .exit)) ≡ set (wordsOf (now (out .entry))) at (getD (map (netIn (now (t .entry)) .source) (wordsOf (now (objects .entry)))) i 0) ⌝ }
+{
+    let k = words::wide(words::get_word(objects, i));
+    let q = net_lookup::source(t, k);
+    words::put_word(out, at, q as u32);
+}
+
+// The positions: each object stands on its kind's source.
+fn put_sources(t: &[u32; 1684], objects: &[u8], out: &mut [u8], base: usize)
+    requires { ⌜ Held (now t) ⌝ }
+    requires { ⌜ All (λ (k : ℕ). k < netIn (now t) .kinds) (wordsOf (now objects)) ⌝ }
+    requires { ⌜ base + length (wordsOf (now objects)) ≤ length (wordsOf (now out)) ⌝ }
+    ensures { λ _. ⌜ wordsOf (now (out .exit)) ≡ sets (wordsOf (now (out .entry))) base (map (netIn (now (t .entry)) .source) (wordsOf (now (objects .entry)))) ⌝ }
+{
+    let n = objects.len() / 4;
+    let mut i = 0;
+    while i < n {
+        put_source(t, objects, i, out, base + i);
+        i += 1;
+    }
+}
+
+// n times 0, from number `base` on.
+fn put_zeros(out: &mut [u8], base: usize, n: usize)
+    requires { ⌜ base + n ≤ length (wordsOf (now out)) ⌝ }
+    ensures { λ _. ⌜ wordsOf (now (out .exit)) ≡ sets (wordsOf (now (out .entry))) base (replicate n 0) ⌝ }
+{
+    let mut i = 0;
+    while i < n {
+        words::put_word(out, base + i, 0);
+        i += 1;
+    }
+}
+
+// The record, into bytes that have just room for it.
+fn fill(t: &[u32; 1684], table: &[u8], objects: &[u8], out: &mut [u8])
+    requires { ⌜ Startable (now t) (now table) (now objects) ⌝ }
+    requires { ⌜ registerCode (netOf (now table)) (wordsOf (now objects)) ≡ 0 ⌝ }
+    requires { ⌜ length (now out) ≡ length (startRecord (now table) (wordsOf (now objects))) ⌝ }
+    ensures { λ _. ⌜ now (out .exit) ≡ startRecord (now (table .entry)) (wordsOf (now (objects .entry))) ⌝ }
+{
+    let counts = counts_bytes(t);
+    let pairs = pairs_bytes(t);
+    let register = 10 + table.len() / 4;
+    let positions = register + objects.len() / 4;
+    let rest = positions + objects.len() / 4;
+    put_contents(out, table.len(), objects.len(), counts, pairs);
+    copy_words(table, out, 10);
+    copy_words(objects, out, register);
+    put_sources(t, objects, out, positions);
+    put_zeros(out, rest, counts / 4 + pairs / 4);
+}
+
+// Starting with a register to which neither 11 nor 12 applies.
+fn write_start(t: &[u32; 1684], table: &[u8], objects: &[u8], rec: &mut [u8]) -> StartAnswer
+    requires { ⌜ Startable (now t) (now table) (now objects) ⌝ }
+    requires { ⌜ registerCode (netOf (now table)) (wordsOf (now objects)) ≡ 0 ⌝ }
+    ensures { λ r. ⌜ startAnswerCode r ≡ startCode (now (table .entry)) (wordsOf (now (objects .entry))) (length (now (rec .entry))) ⌝ }
+    ensures { λ _. ⌜ now (rec .exit) ≡ startBytes (now (table .entry)) (wordsOf (now (objects .entry))) (now (rec .entry)) ⌝ }
+{
+    let size = record_bytes(t, table.len(), objects.len());
+    if rec.len() < size {
+        return StartAnswer::NoRoom;
+    }
+    fill(t, table, objects, &mut rec[..size]);
+    StartAnswer::Taken
+}
+
+// Starts a trail: its record in front of the lent bytes. `table` is the table file whose net `t` holds, `objects` the
+// register, the kind of each object. Where it is refused no byte changes.
+pub fn start(t: &[u32; 1684], table: &[u8], objects: &[u8], rec: &mut [u8]) -> StartAnswer
+    requires { ⌜ Startable (now t) (now table) (now objects) ⌝ }
+    ensures { λ r. ⌜ startAnswerCode r ≡ startCode (now (table .entry)) (wordsOf (now (objects .entry))) (length (now (rec .entry))) ⌝ }
+    ensures { λ _. ⌜ now (rec .exit) ≡ startBytes (now (table .entry)) (wordsOf (now (objects .entry))) (now (rec .entry)) ⌝ }
+{
+    let code = register_refusal(objects, t);
+    if code == 11 {
+        return StartAnswer::Number;
+    }
+    if code == 12 {
+        return StartAnswer::Kind;
+    }
+    write_start(t, table, objects, rec)
+}

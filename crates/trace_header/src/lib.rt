@@ -1,0 +1,88 @@
+// Opening a trail file: what its contents say, 71, then 11 and 12 of its register.
+// Above `words`, `net` and `replay`; `trace_reader` reads the events behind the register, `conform` opens the trail that it is given.
+
+use replay::register::register_refusal;
+use words::wide;
+use words::word_at;
+ghost use mathlib.Core.Path.{_≡_};
+ghost use Prim.Native.Nat.{_-_, _≤_};
+ghost use lib.ListN.{length, take, drop};
+ghost use Rattle.words.specs.Refusals.{first};
+ghost use Rattle.words.specs.Words.{wordsOf};
+ghost use Rattle.net.specs.Held.{netIn, Held};
+ghost use Rattle.trace_header.specs.Opening.{contentsTests, contentsOf, contentsCode, openCode, traceCode};
+
+// What the first 16 bytes of a trail file say of its bodies: their lengths in bytes. `contentsCode` gives document 01's number.
+pub enum Contents {
+    // 71
+    Broken,
+    Bodies { register: usize, events: usize },
+}
+
+// The lengths of the two bodies, by the first 16 bytes.
+pub fn read_contents(head: &[u8]) -> Contents
+    ensures answer { λ r. ⌜ r ≡ contentsOf (now (head .entry)) ⌝ }
+    ensures code { λ r. ⌜ contentsCode r ≡ first (contentsTests (now (head .entry))) ⌝ }
+{
+    if head.len() < 16 {
+        return Contents::Broken;
+    }
+    let register = wide(word_at(head, 4));
+    if word_at(head, 0) != 16 {
+        return Contents::Broken;
+    }
+    if wide(word_at(head, 8)) != 16 + register {
+        return Contents::Broken;
+    }
+    if register % 4 != 0 {
+        return Contents::Broken;
+    }
+    Contents::Bodies {
+        register,
+        events: wide(word_at(head, 12)),
+    }
+}
+
+// 71, 11, 12 or 0 for a file whose contents are not broken. Its register claims `claimed` bytes; `there` counts the bytes behind the
+// contents, all or up to as many as are claimed; `held` is the register's bytes, where they are all there and at most 4,096. A longer
+// register is counted and not held.
+pub fn opening_refusal(claimed: usize, there: usize, held: &[u8], t: &[u32; 1684]) -> u32
+    requires { ⌜ Held (now t) ⌝ }
+    ensures { λ r. ⌜ r ≡ openCode (netIn (now (t .entry))) claimed there (wordsOf (now (held .entry))) ⌝ }
+{
+    if there < claimed {
+        return 71;
+    }
+    if 4096 < claimed {
+        return 11;
+    }
+    register_refusal(held, t)
+}
+
+// The same for a file that is held whole.
+fn held_refusal(file: &[u8], claimed: usize, t: &[u32; 1684]) -> u32
+    requires { ⌜ Held (now t) ⌝ }
+    requires { ⌜ 16 ≤ length (now file) ⌝ }
+    ensures { λ r. ⌜ r ≡ openCode (netIn (now (t .entry))) claimed (length (now (file .entry)) - 16) (wordsOf (take claimed (drop 16 (now (file .entry))))) ⌝ }
+{
+    let rest = file.len() - 16;
+    if rest < claimed {
+        return 71;
+    }
+    let end = 16 + claimed;
+    opening_refusal(claimed, rest, &file[16..end], t)
+}
+
+// 71, 11, 12 or 0 for a file that is held whole.
+pub fn trace_refusal(file: &[u8], t: &[u32; 1684]) -> u32
+    requires { ⌜ Held (now t) ⌝ }
+    ensures { λ r. ⌜ r ≡ traceCode (netIn (now (t .entry))) (now (file .entry)) ⌝ }
+{
+    match read_contents(file) {
+        Contents::Broken => 71,
+        Contents::Bodies {
+            register,
+            events: _,
+        } => held_refusal(file, register, t),
+    }
+}

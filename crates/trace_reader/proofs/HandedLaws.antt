@@ -1,0 +1,127 @@
+-- An event that the reader hands out is one that a replay accepts, and lies inside body and file. Assumes nothing.
+use Prim.Native.Nat.{ℕ, _+_, _*_, _≤_}
+use mathlib.Core.Path.{_≡_, refl, ap, sym, subst, _∙_}
+use mathlib.Core.List.{List}
+use native.Mathlib.Decide.{ℕ-discrete}
+use native.Mathlib.Omega.{arith}
+use lib.ListN.{length, take, drop}
+use borrow.Author.Tests.{ltb-false, leb-false, eq-eqb, ne-eqb}
+use Rattle.words.specs.Refusals.{first}
+use Rattle.words.specs.Words.{word, wordsOf, wordsAt}
+use Rattle.words.proofs.Lists.{is-eq}
+use Rattle.words.proofs.Refusals.{none-apply, first-zero}
+use Rattle.net.specs.Net.{Net, Loaded}
+use Rattle.replay.specs.Plain as plain
+use Rattle.trace_header.specs.Opening.{shapeTests}
+use Rattle.trace_reader.specs.declared.Answer.{Answer}
+use Rattle.trace_reader.specs.declared.Found.the-variants as found
+use Rattle.trace_reader.specs.Answers.{codeOf, nothing, unless}
+use Rattle.trace_reader.specs.Claims.{Handed, HandedOut}
+use Rattle.trace_reader.specs.Trace.{eventAt, endTests, readTests, eventFound, readCode, readFrom, readAtCode, readAt}
+use Rattle.words.proofs.Words.{length-at}
+use Rattle.trace_reader.proofs.ObjectLaws.{bytes-objects, first-of-eight}
+
+unless-event : (c : ℕ) (a : Answer) (at : ℕ) → unless c a at .found ≡ found.Event → (c ≡ 0) × (unless c a at ≡ a)
+unless-event c a at p = go (ℕ-discrete c 0)
+  where
+    go : Dec (c ≡ 0) → (c ≡ 0) × (unless c a at ≡ a)
+    go (yes e) = (e, rw (eq-eqb c 0 e))
+    go (no m) = let q : found.Refused c ≡ found.Event = rw (ne-eqb c 0 m) at p in let x : _≡_ {A = ℕ} 0 1 = cc in absurd (omega arith)
+
+module _ (N : Net) (L : Loaded N) (ks : List ℕ) (accepted : ℕ) where
+  module _ (b : List ℕ) (from body at : ℕ) where
+    -- where an event is found no test applies
+    event-only : readFrom N ks accepted b from body at .found ≡ found.Event
+        → (first (readTests N ks accepted b from body at) ≡ 0) × (readFrom N ks accepted b from body at ≡ eventFound b from at)
+    unfolding readFrom
+    event-only p = go (ℕ-discrete at body)
+      where
+        go : Dec (at ≡ body) → (first (readTests N ks accepted b from body at) ≡ 0) × (readFrom N ks accepted b from body at ≡ eventFound b from at)
+        go (yes e) =
+            let q : unless (first (endTests b from)) (nothing found.End at) at .found ≡ found.Event = rw (eq-eqb at body e) at p in
+            let s : found.End ≡ found.Event = sym (ap (λ (a : Answer). a .found) (unless-event (first (endTests b from)) (nothing found.End at) at q .1)) ∙ q in
+            let x : _≡_ {A = ℕ} 0 1 = cc in
+            absurd (omega arith)
+        go (no m) =
+            let q : unless (first (readTests N ks accepted b from body at)) (eventFound b from at) at .found ≡ found.Event = rw (ne-eqb at body m) at p in
+            let s = unless-event (first (readTests N ks accepted b from body at)) (eventFound b from at) at q in
+            (s .0, rw (ne-eqb at body m) (s .1))
+
+    handed-found : first (readTests N ks accepted b from body at) ≡ 0 → Handed N ks accepted (length b) from body at (eventFound b from at)
+    handed-found e =
+        let t = none-apply (readTests N ks accepted b from body at) (omega arith) e .1 .1 .1 in
+        let r = t .1 .1 .1 .1 in
+        let n : word b (from + 4) ≤ 8 =
+        omega (
+          arith,
+          sym (length-at b (from + 8) (word b (from + 4))) ∙ is-eq (length (wordsAt b (from + 8) (word b (from + 4)))) (length (N .arcs (word b from))) (t .1 .1 .1 .0),
+          L .arcs-le (word b from) (leb-false (N .acts) (word b from) (t .1 .1 .0)),
+        ) in
+        let o = first-of-eight (wordsAt b (from + 8) (word b (from + 4))) (word b (from + 4)) (length-at b (from + 8) (word b (from + 4))) n in
+        record {
+          taken =
+              ap (λ (os : List ℕ). plain.refusal N ks 0 accepted (record { act = word b from; objs = os })) o
+              ∙ first-zero (plain.eventTests N ks 0 accepted (eventAt b from)) (t .0, (t .1 .0, (t .1 .1 .0, (t .1 .1 .1 .0, r .1 .1))));
+          next = refl;
+          few = n;
+          inside = ltb-false body (at + 8 + 4 * word b (from + 4)) (r .0);
+          there = ltb-false (length b) (from + 8 + 4 * word b (from + 4)) (r .1 .0);
+        }
+
+    -- The law of the event handed out, by reading in bytes and in a file.
+    pub handed : readFrom N ks accepted b from body at .found ≡ found.Event → Handed N ks accepted (length b) from body at (readFrom N ks accepted b from body at)
+    handed p = let s = event-only p in subst (Handed N ks accepted (length b) from body at) (sym (s .1)) (handed-found (s .0))
+
+    -- the bytes behind the first two numbers hold its objects
+    abbrev Held-in : Answer → Type 0
+    Held-in r = wordsOf (take (4 * r .event .count) (drop (from + 8) b)) ≡ take (r .event .count) (r .event .objects)
+
+    pub handed-bytes : readFrom N ks accepted b from body at .found ≡ found.Event → Held-in (readFrom N ks accepted b from body at)
+    handed-bytes p =
+        let s = event-only p in
+        let h = handed-found (s .0) in
+        let n = word b (from + 4) in
+        subst Held-in (sym (s .1)) (bytes-objects b n (from + 8) (h .there) ∙ sym (first-of-eight (wordsAt b (from + 8) n) n (length-at b (from + 8) n) (h .few)))
+
+pub handed-out : (N : Net) → Loaded N → HandedOut N
+unfolding readAt
+handed-out N L ks accepted f at p =
+    let from : ℕ = 16 + word f 4 + at in
+    let s = unless-event (first (shapeTests f)) (readFrom N ks accepted f from (word f 12) at) at p in
+    subst (Handed N ks accepted (length f) from (word f 12) at) (sym (s .1))
+    (handed N L ks accepted f from (word f 12) at (sym (ap (λ (a : Answer). a .found) (s .1)) ∙ p))
+
+-- the number that an answer gives
+unless-code : (c : ℕ) (a : Answer) (at : ℕ) → codeOf (a .found) ≡ 0 → codeOf (unless c a at .found) ≡ c
+unless-code c a at z = go (ℕ-discrete c 0)
+  where
+    go : Dec (c ≡ 0) → codeOf (unless c a at .found) ≡ c
+    go (yes e) = rw (eq-eqb c 0 e) (z ∙ sym e)
+    go (no m) = rw (ne-eqb c 0 m)
+
+pub read-code : (N : Net) (ks : List ℕ) (accepted : ℕ) (b : List ℕ) (from body at : ℕ) → codeOf (readFrom N ks accepted b from body at .found) ≡ readCode N ks accepted b from body at
+unfolding readFrom readCode
+read-code N ks accepted b from body at = go (ℕ-discrete at body)
+  where
+    go : Dec (at ≡ body) → codeOf (readFrom N ks accepted b from body at .found) ≡ readCode N ks accepted b from body at
+    go (yes e) = rw (eq-eqb at body e) (unless-code (first (endTests b from)) (nothing found.End at) at refl)
+    go (no m) = rw (ne-eqb at body m) (unless-code (first (readTests N ks accepted b from body at)) (eventFound b from at) at refl)
+
+pub read-at-code : (N : Net) (ks : List ℕ) (accepted : ℕ) (f : List ℕ) (at : ℕ) → codeOf (readAt N ks accepted f at .found) ≡ readAtCode N ks accepted f at
+unfolding readAt readAtCode
+read-at-code N ks accepted f at = go (ℕ-discrete (first (shapeTests f)) 0)
+  where
+    go : Dec (first (shapeTests f) ≡ 0) → codeOf (readAt N ks accepted f at .found) ≡ readAtCode N ks accepted f at
+    go (yes e) = rw (eq-eqb (first (shapeTests f)) 0 e) (read-code N ks accepted f (16 + word f 4 + at) (word f 12) at)
+    go (no m) = rw (ne-eqb (first (shapeTests f)) 0 m)
+
+-- an answer that is a reading has the reading's number
+pub with-code : (N : Net) (ks : List ℕ) (accepted : ℕ) (b : List ℕ) (from body at : ℕ) {r : Answer}
+    → r ≡ readFrom N ks accepted b from body at
+    → (r ≡ readFrom N ks accepted b from body at) × (codeOf (r .found) ≡ readCode N ks accepted b from body at)
+with-code N ks accepted b from body at e = (e, ap (λ (a : Answer). codeOf (a .found)) e ∙ read-code N ks accepted b from body at)
+
+pub with-at-code : (N : Net) (ks : List ℕ) (accepted : ℕ) (f : List ℕ) (at : ℕ) {r : Answer}
+    → r ≡ readAt N ks accepted f at
+    → (r ≡ readAt N ks accepted f at) × (codeOf (r .found) ≡ readAtCode N ks accepted f at)
+with-at-code N ks accepted f at e = (e, ap (λ (a : Answer). codeOf (a .found)) e ∙ read-at-code N ks accepted f at)
