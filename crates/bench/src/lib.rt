@@ -2,6 +2,8 @@
 
 use client_answers::event_code;
 use client_check::check::checked;
+use net::NET_WORDS;
+use net::NetWords;
 use words::get_word;
 use words::wide;
 ghost use mathlib.Core.Path.{_≡_};
@@ -13,7 +15,7 @@ ghost use Rattle.replay.specs.Ready.{Ready};
 ghost use Rattle.bench.specs.Bench.{rowAt, eventsIn, accepted, carried, eventsAnswer, eventsLeave};
 
 // Puts the event of the row at number `at` to the trail, and gives its number.
-fn put_row(trail: &mut [u8], t: &[u32; 1684], events: &[u8], at: usize, count: usize) -> u32
+fn put_row(trail: &mut [u8], t: &NetWords, events: &[u8], at: usize, count: usize) -> u32
     requires { ⌜ Ready (now t) (now trail) ⌝ }
     requires { ⌜ (at + (2 + count) ≤ length (wordsOf (now events))) × (count ≡ getD (drop at (wordsOf (now events))) 1 0) ⌝ }
     ensures { λ r. ⌜ (r ≡ askCode (now (trail .entry)) (rowAt (drop at (wordsOf (now (events .entry)))))) × (now (trail .exit) ≡ askBytes (now (trail .entry)) (rowAt (drop at (wordsOf (now (events .entry)))))) ⌝ }
@@ -24,7 +26,7 @@ fn put_row(trail: &mut [u8], t: &[u32; 1684], events: &[u8], at: usize, count: u
 }
 
 // Carries out the events up to the body's end, a row that is cut off or a refusal, and gives how many were accepted.
-fn run_events(trail: &mut [u8], t: &[u32; 1684], events: &[u8]) -> u64
+fn run_events(trail: &mut [u8], t: &NetWords, events: &[u8]) -> u64
     requires { ⌜ Ready (now t) (now trail) ⌝ }
     ensures { λ r. ⌜ (r ≡ accepted (now (trail .entry)) (eventsIn (now (events .entry)))) × (now (trail .exit) ≡ carried (now (trail .entry)) (eventsIn (now (events .entry)))) ⌝ }
 {
@@ -51,7 +53,7 @@ pub extern "C" fn conform_bench_events(trail: &mut [u8], events: &[u8]) -> u64
     ensures { λ r. ⌜ r ≡ eventsAnswer (now (trail .entry)) (now (events .entry)) ⌝ }
     ensures { λ _. ⌜ now (trail .exit) ≡ eventsLeave (now (trail .entry)) (now (events .entry)) ⌝ }
 {
-    let mut t = [0u32; 1684];
+    let mut t = [0u32; NET_WORDS];
     let refused = checked(trail, &mut t);
     if refused != 0 {
         return refused;

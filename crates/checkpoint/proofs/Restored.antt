@@ -26,6 +26,7 @@ use Rattle.replay.proofs.Keep.{sound-ask}
 use Rattle.checkpoint.specs.Restore.{beginsClosed, tests44, tests45, tests46, tests47, restoreTests, restoreCode}
 use Rattle.checkpoint.proofs.Spans.{Ends, ends-at, at-ends, words-from-length, words-from-bytes, words-from-read, words-head, glue, interleave-parted, parted-length}
 use Rattle.checkpoint.proofs.Judged.{sound-registered, sound45, sound46, sound47, judged-sound}
+use Rattle.replay.specs.Limits.{maxRecord}
 
 -- the contents of a record that is taken up, and of its counts and jumps bodies the lengths
 record Fitted (b : List ℕ) (N : Net) : Type 0 where
@@ -143,8 +144,8 @@ module _ (b : List ℕ) (z : restoreCode b ≡ 0) where
   unfolding bodiesOf
   ends = ends-at b 5 0 40 (length b) (not-false _ (passed .1 .1 .0))
 
-  pub restored-le : length b ≤ 29844
-  restored-le = ltb-false 29844 (length b) (passed .1 .0)
+  pub restored-le : length b ≤ maxRecord
+  restored-le = ltb-false maxRecord (length b) (passed .1 .0)
 
   pub restored-loads : loadCode (tableIn b) ≡ 0
   restored-loads = is-eq _ _ (passed .1 .1 .1 .0)
@@ -205,9 +206,9 @@ module _ (b : List ℕ) (L : Loaded (netAt b)) (I : Intact (netAt b) b) where
   unfolding stateAt
   stored-sound = I .sound
 
-  size-le : length b ≤ 29844
+  size-le : length b ≤ maxRecord
   unfolding stateAt
-  size-le = subst (λ (c : List ℕ). length c ≤ 29844) (sym (I .bytes)) (encode-le (netAt b) L (tableIn b) (stateAt b) stored-sound (I .table-size))
+  size-le = subst (λ (c : List ℕ). length c ≤ maxRecord) (sym (I .bytes)) (encode-le (netAt b) L (tableIn b) (stateAt b) stored-sound (I .table-size))
 
   ends-there : Ends b 0 40 5 (length b)
   ends-there = let X = placed in (omega arith, (omega arith, (omega arith, (omega arith, (omega arith, omega arith)))))
@@ -228,7 +229,7 @@ module _ (b : List ℕ) (L : Loaded (netAt b)) (I : Intact (netAt b) b) where
       let p : word b 20 ≡ 4 * length (stateAt b .kinds) = omega (arith, S .on .size) in (
         le-ltb (length b) 40 (omega arith),
         (
-          le-ltb 29844 (length b) size-le,
+          le-ltb maxRecord (length b) size-le,
           (
             ap not (at-ends b 5 0 40 (length b) ends-there),
             (

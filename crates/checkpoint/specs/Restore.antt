@@ -13,10 +13,11 @@ use Rattle.replay.specs.Plain.{closers, registerCode}
 use Rattle.replay.specs.State.{State, storedConsumed, storedPair, storedJumpsIn, storedMoved, storedJumps}
 use Rattle.replay.specs.Record.{tableIn, countsSize}
 use Rattle.replay.specs.Calls.{netAt, stateAt}
+use Rattle.replay.specs.Limits.{maxRecord}
 
 -- 41: the length. 42: the layout. 43: the table is refused.
 abbrev pub tests41 : List ℕ → List (Bool × ℕ)
-tests41 b = (ltb (length b) 40, 41) ∷ (ltb 29844 (length b), 41) ∷ []
+tests41 b = (ltb (length b) 40, 41) ∷ (ltb maxRecord (length b), 41) ∷ []
 
 abbrev pub tests42 : List ℕ → List (Bool × ℕ)
 tests42 b = (not (endsAt (length b) (bodiesOf 5 b)), 42) ∷ []

@@ -15,6 +15,7 @@ use Rattle.replay.specs.Calls.{netAt, stateAt, startRecord}
 use Rattle.replay.specs.Rows.{Shown, shown, pairsBelow}
 use Rattle.replay.specs.Rows as R
 use Rattle.checkpoint.specs.Calls.{Call, asks, save, restore, calls, told, saves}
+use Rattle.replay.specs.Limits.{maxRecord}
 
 -- what a trail stores and gives, beside its answers: in the order of the plain run's `shown`
 abbrev pub shownFrom : Net → State → List ℕ → Shown
@@ -46,11 +47,11 @@ listed r = map asks (r .asks)
 
 -- the record that the row's trail writes after n of its calls
 abbrev pub savedAfter : ℕ → R.Row → List ℕ
-savedAfter n r = getD (saves (begun (r .kinds)) (take n (listed r) ++ save 29844 ∷ [])) 0 []
+savedAfter n r = getD (saves (begun (r .kinds)) (take n (listed r) ++ save maxRecord ∷ [])) 0 []
 
 -- the calls that restore it and go on
 abbrev pub goesOn : ℕ → R.Row → List Call
-goesOn n r = restore 29844 (savedAfter n r) ∷ drop n (listed r)
+goesOn n r = restore maxRecord (savedAfter n r) ∷ drop n (listed r)
 
 -- the row holds: of the plain run and of the bytes
 abbrev pub Holds : Row → Type 0

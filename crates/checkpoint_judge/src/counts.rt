@@ -1,5 +1,6 @@
 // Test 46 on the bytes of register and counts.
 
+use net::NetWords;
 use words::wide;
 ghost use mathlib.Core.Bool.{not};
 ghost use mathlib.Core.List.{[], _∷_};
@@ -44,7 +45,7 @@ fn jumps_above(fired: u32, arcs: usize, jumps: u32) -> bool
 }
 
 // JUMPS above MOVED, for some activity.
-fn some_jumps_above(cs: &[u8], t: &[u32; 1684]) -> bool
+fn some_jumps_above(cs: &[u8], t: &NetWords) -> bool
     requires { ⌜ Held (now t) ⌝ }
     requires { ⌜ length (wordsOf (now cs)) ≡ countsSize (netIn (now t)) ⌝ }
     ensures { λ r. ⌜ r ≡ anyTo (netIn (now (t .entry)) .acts) (λ (a : ℕ). ltb (getD (wordsOf (now (cs .entry))) (3 + 2 * a) 0 * length (netIn (now (t .entry)) .arcs a)) (getD (wordsOf (now (cs .entry))) (4 + 2 * a) 0)) ⌝ }
@@ -78,7 +79,7 @@ fn bad_closing(closed: u32, closing: u32, objects: usize) -> bool
 }
 
 // 46: length, closed flag, events, FIRED, JUMPS, closing jumps.
-pub fn bad_counts(ks: &[u8], cs: &[u8], t: &[u32; 1684]) -> bool
+pub fn bad_counts(ks: &[u8], cs: &[u8], t: &NetWords) -> bool
     requires { ⌜ Held (now t) ⌝ }
     ensures { λ r. ⌜ r ≡ hit (tests46 (netIn (now (t .entry))) (bodyState (now (ks .entry)) [] (now (cs .entry)) []) (length (now (cs .entry)))) ⌝ }
 {

@@ -2,6 +2,7 @@
 
 use crate::counts::sum_every;
 use crate::counts::wide64;
+use net::NetWords;
 use words::wide;
 ghost use mathlib.Core.List.{[]};
 ghost use mathlib.Core.Path.{_≡_};
@@ -18,7 +19,7 @@ ghost use Rattle.checkpoint.specs.Restore.{tests47};
 ghost use Rattle.checkpoint_judge.specs.Judge.{hit, bodyState, pairIn, barredIn, takenBy, Counted, AtMost, Added};
 
 // The count v where place y is not of kind k, else 0.
-fn foreign_count(t: &[u32; 1684], k: usize, y: usize, v: u64) -> u64
+fn foreign_count(t: &NetWords, k: usize, y: usize, v: u64) -> u64
     requires { ⌜ Held (now t) ⌝ }
     requires { ⌜ y < netIn (now t) .places ⌝ }
     ensures { λ r. ⌜ r ≡ pick (eqb k (netIn (now (t .entry)) .kindOf y)) 0 v ⌝ }
@@ -30,7 +31,7 @@ fn foreign_count(t: &[u32; 1684], k: usize, y: usize, v: u64) -> u64
 }
 
 // Row x of the jumps: its counts are added to the columns' sums. The sum of those that no jump can have.
-fn add_row(js: &[u8], t: &[u32; 1684], x: usize, into: &mut [u64; 64]) -> u64
+fn add_row(js: &[u8], t: &NetWords, x: usize, into: &mut [u64; 64]) -> u64
     requires { ⌜ Held (now t) ⌝ }
     requires { ⌜ (x < netIn (now t) .places) × (length (wordsOf (now js)) ≡ netIn (now t) .places * netIn (now t) .places) ⌝ }
     requires { ⌜ AtMost (netIn (now t) .places) (x * 4294967296) (now into) ⌝ }
@@ -53,7 +54,7 @@ fn add_row(js: &[u8], t: &[u32; 1684], x: usize, into: &mut [u64; 64]) -> u64
 }
 
 // All rows.
-fn add_rows(js: &[u8], t: &[u32; 1684], into: &mut [u64; 64]) -> u64
+fn add_rows(js: &[u8], t: &NetWords, into: &mut [u64; 64]) -> u64
     requires { ⌜ Held (now t) ⌝ }
     requires { ⌜ length (wordsOf (now js)) ≡ netIn (now t) .places * netIn (now t) .places ⌝ }
     requires { ⌜ AtMost (netIn (now t) .places) 0 (now into) ⌝ }
@@ -87,7 +88,7 @@ fn sum_row(into: &[u64; 64], n: usize) -> u64
 }
 
 // What `fired` events of activity a take of kind k.
-fn take_kind(t: &[u32; 1684], a: usize, k: usize, fired: u32, taken: &mut [u64; 64])
+fn take_kind(t: &NetWords, a: usize, k: usize, fired: u32, taken: &mut [u64; 64])
     requires { ⌜ Held (now t) ⌝ }
     requires { ⌜ (a < netIn (now t) .acts) × (k < netIn (now t) .kinds) ⌝ }
     requires { ⌜ AtMost (netIn (now t) .places) 2199023255552 (now taken) ⌝ }
@@ -101,7 +102,7 @@ fn take_kind(t: &[u32; 1684], a: usize, k: usize, fired: u32, taken: &mut [u64; 
 }
 
 // What `fired` events of activity a take, of all kinds.
-fn take_arcs(t: &[u32; 1684], a: usize, fired: u32, taken: &mut [u64; 64])
+fn take_arcs(t: &NetWords, a: usize, fired: u32, taken: &mut [u64; 64])
     requires { ⌜ Held (now t) ⌝ }
     requires { ⌜ a < netIn (now t) .acts ⌝ }
     requires { ⌜ AtMost (netIn (now t) .places) (a * 34359738368) (now taken) ⌝ }
@@ -117,7 +118,7 @@ fn take_arcs(t: &[u32; 1684], a: usize, fired: u32, taken: &mut [u64; 64])
 }
 
 // What all events take.
-fn take_inputs(cs: &[u8], t: &[u32; 1684], taken: &mut [u64; 64])
+fn take_inputs(cs: &[u8], t: &NetWords, taken: &mut [u64; 64])
     requires { ⌜ Held (now t) ⌝ }
     requires { ⌜ length (wordsOf (now cs)) ≡ countsSize (netIn (now t)) ⌝ }
     requires { ⌜ AtMost (netIn (now t) .places) 0 (now taken) ⌝ }
@@ -133,7 +134,7 @@ fn take_inputs(cs: &[u8], t: &[u32; 1684], taken: &mut [u64; 64])
 }
 
 // What the close takes: each object from its sink.
-fn take_sinks(ks: &[u8], t: &[u32; 1684], taken: &mut [u64; 64])
+fn take_sinks(ks: &[u8], t: &NetWords, taken: &mut [u64; 64])
     requires { ⌜ Held (now t) ⌝ }
     requires { ⌜ registerCode (netIn (now t)) (wordsOf (now ks)) ≡ 0 ⌝ }
     requires { ⌜ AtMost (netIn (now t) .places) 2199023255552 (now taken) ⌝ }
@@ -149,7 +150,7 @@ fn take_sinks(ks: &[u8], t: &[u32; 1684], taken: &mut [u64; 64])
 }
 
 // What the close takes where there was one.
-fn take_closed(ks: &[u8], closed: u32, t: &[u32; 1684], taken: &mut [u64; 64])
+fn take_closed(ks: &[u8], closed: u32, t: &NetWords, taken: &mut [u64; 64])
     requires { ⌜ Held (now t) ⌝ }
     requires { ⌜ (registerCode (netIn (now t)) (wordsOf (now ks)) ≡ 0) × (closed ≤ 1) ⌝ }
     requires { ⌜ AtMost (netIn (now t) .places) 2199023255552 (now taken) ⌝ }
@@ -177,7 +178,7 @@ fn above(taken: &[u64; 64], into: &[u64; 64], n: usize) -> bool
 }
 
 // IN, as summed, above TAKEN, for some place.
-fn above_taken(ks: &[u8], cs: &[u8], t: &[u32; 1684], into: &[u64; 64]) -> bool
+fn above_taken(ks: &[u8], cs: &[u8], t: &NetWords, into: &[u64; 64]) -> bool
     requires { ⌜ Held (now t) ⌝ }
     requires { ⌜ Counted (netIn (now t)) (now ks) (now cs) ⌝ }
     ensures { λ r. ⌜ r ≡ anyTo (netIn (now (t .entry)) .places) (λ (q : ℕ). ltb (storedConsumed (netIn (now (t .entry))) (bodyState (now (ks .entry)) [] (now (cs .entry)) []) q) (getD (now (into .entry)) q 0)) ⌝ }
@@ -189,7 +190,7 @@ fn above_taken(ks: &[u8], cs: &[u8], t: &[u32; 1684], into: &[u64; 64]) -> bool
 }
 
 // 47: length, counts that no jump can have, the sum, IN above TAKEN.
-pub fn bad_jumps(ks: &[u8], cs: &[u8], js: &[u8], t: &[u32; 1684]) -> bool
+pub fn bad_jumps(ks: &[u8], cs: &[u8], js: &[u8], t: &NetWords) -> bool
     requires { ⌜ Held (now t) ⌝ }
     requires { ⌜ Counted (netIn (now t)) (now ks) (now cs) ⌝ }
     ensures { λ r. ⌜ r ≡ hit (tests47 (netIn (now (t .entry))) (bodyState (now (ks .entry)) [] (now (cs .entry)) (now (js .entry))) (length (now (js .entry)))) ⌝ }

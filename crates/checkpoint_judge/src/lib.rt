@@ -6,7 +6,8 @@ use crate::jumps::bad_jumps;
 use crate::positions::bad_positions;
 use crate::positions::begins_closed;
 use checkpoint::RestoreAnswer;
-use replay::register::register_refusal;
+use net::NetWords;
+use replay_objects::register::register_refusal;
 ghost use mathlib.Core.Path.{_≡_};
 ghost use Rattle.net.specs.Held.{netIn, Held};
 ghost use Rattle.checkpoint.specs.Answers.{restoreAnswerCode, restoreAnswerSecond};
@@ -17,7 +18,7 @@ mod jumps;
 mod positions;
 
 // The register's bytes, then those of positions, counts and jumps.
-pub fn judge(ks: &[u8], ps: &[u8], cs: &[u8], js: &[u8], t: &[u32; 1684]) -> RestoreAnswer
+pub fn judge(ks: &[u8], ps: &[u8], cs: &[u8], js: &[u8], t: &NetWords) -> RestoreAnswer
     requires { ⌜ Held (now t) ⌝ }
     ensures { λ r. ⌜ restoreAnswerCode r ≡ judgeCode (netIn (now (t .entry))) (now (ks .entry)) (now (ps .entry)) (now (cs .entry)) (now (js .entry)) ⌝ }
     ensures { λ r. ⌜ restoreAnswerSecond r ≡ judgeSecond (netIn (now (t .entry))) (now (ks .entry)) (now (ps .entry)) (now (cs .entry)) (now (js .entry)) ⌝ }

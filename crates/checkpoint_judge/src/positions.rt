@@ -1,5 +1,6 @@
 // Test 45 on the bytes of register and positions.
 
+use net::NetWords;
 use words::wide;
 ghost use mathlib.Core.List.{[]};
 ghost use mathlib.Core.Path.{_≡_};
@@ -22,7 +23,7 @@ pub fn begins_closed(cs: &[u8]) -> bool
 }
 
 // An object of kind k on place p. Its sink is a known place of its kind.
-fn bad_position(t: &[u32; 1684], k: usize, p: usize, closed: bool) -> bool
+fn bad_position(t: &NetWords, k: usize, p: usize, closed: bool) -> bool
     requires { ⌜ Held (now t) ⌝ }
     requires { ⌜ k < netIn (now t) .kinds ⌝ }
     ensures { λ r. ⌜ r ≡ badPosition (netIn (now (t .entry))) closed k p ⌝ }
@@ -37,7 +38,7 @@ fn bad_position(t: &[u32; 1684], k: usize, p: usize, closed: bool) -> bool
 }
 
 // 45: one row for each object, each on a known place of its kind, and on its sink in a closed trail.
-pub fn bad_positions(ks: &[u8], ps: &[u8], t: &[u32; 1684], closed: bool) -> bool
+pub fn bad_positions(ks: &[u8], ps: &[u8], t: &NetWords, closed: bool) -> bool
     requires { ⌜ Held (now t) ⌝ }
     requires { ⌜ registerCode (netIn (now t)) (wordsOf (now ks)) ≡ 0 ⌝ }
     ensures { λ r. ⌜ r ≡ hit (tests45 (netIn (now (t .entry))) (bodyState (now (ks .entry)) (now (ps .entry)) [] []) (length (now (ps .entry))) closed) ⌝ }

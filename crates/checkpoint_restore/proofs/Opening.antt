@@ -28,6 +28,8 @@ use Rattle.checkpoint_judge.specs.Judge.{closedBy, judgeCode, judgeSecond}
 use Rattle.words.proofs.Words.{words-take, word-drop}
 use Rattle.checkpoint.proofs.Spans.{ends-at}
 use Rattle.checkpoint_judge.proofs.Verdicts.{judge-not-43}
+use Rattle.net.specs.Limits.{netWords}
+use Rattle.replay.specs.Limits.{maxRecord}
 
 -- a list of tests without its first
 abbrev rest : List (Bool × ℕ) → List (Bool × ℕ)
@@ -137,7 +139,7 @@ module _ (b : List ℕ) (F : Framed b) where
         let s = spread in
         let N : Net = netAt b in
         let K : List ℕ = wordsOf ks in let P : List ℕ = wordsOf ps in let C : List ℕ = wordsOf cs in let J : List ℕ = wordsOf js in
-        rw (le-ltb (length b) 40 (F .size-ge), le-ltb 29844 (length b) (F .size-le), F .laid, eq-eqb (loadCode (tableIn b)) 0 z)
+        rw (le-ltb (length b) 40 (F .size-ge), le-ltb maxRecord (length b) (F .size-le), F .laid, eq-eqb (loadCode (tableIn b)) 0 z)
         (same-tests N closed (word b 12) (word b 20) (word b 28) (word b 36) _ K _ P _ C _ J
         kinds-are
         (λ e. sym (span-words b (word b 16) (word b 20) (word b 20 / 4) (omega arith)))
@@ -164,13 +166,13 @@ module _ (b : List ℕ) (F : Framed b) where
         last false t x y h = refl
 
   -- what loading the record's table leaves
-  pub opened : (w : List ℕ) → length w ≡ 1684 → loadCode (tableIn b) ≡ 0 → Opened b (loadedWords (tableIn b) w)
+  pub opened : (w : List ℕ) → length w ≡ netWords → loadCode (tableIn b) ≡ 0 → Opened b (loadedWords (tableIn b) w)
   unfolding netAt
   opened w e z = record { framed = F; loads = z; held = loaded-held (tableIn b) w e z; net = held-net (tableIn b) w e z }
 
   table-code : (loadCode (tableIn b) ≡ 0 → ⊥) → 43 ≡ restoreCode b
   unfolding restoreCode
-  table-code n = rw (le-ltb (length b) 40 (F .size-ge), le-ltb 29844 (length b) (F .size-le), F .laid, ne-eqb (loadCode (tableIn b)) 0 n)
+  table-code n = rw (le-ltb (length b) 40 (F .size-ge), le-ltb maxRecord (length b) (F .size-le), F .laid, ne-eqb (loadCode (tableIn b)) 0 n)
 
   pub table-refused : (loadCode (tableIn b) ≡ 0 → ⊥) → (43 ≡ restoreCode b) × (loadCode (tableIn b) ≡ restoreSecond b)
   unfolding restoreSecond
@@ -204,13 +206,13 @@ module _ (b : List ℕ) where
   unfolding restoreCode
   too-short h = let e : 41 ≡ restoreCode b = rw (lt-ltb (length b) 40 h) in (e, alone 41 e refl refl)
 
-  pub too-long : 40 ≤ length b → 29844 < length b → (41 ≡ restoreCode b) × (0 ≡ restoreSecond b)
+  pub too-long : 40 ≤ length b → maxRecord < length b → (41 ≡ restoreCode b) × (0 ≡ restoreSecond b)
   unfolding restoreCode
-  too-long g h = let e : 41 ≡ restoreCode b = rw (le-ltb (length b) 40 g, lt-ltb 29844 (length b) h) in (e, alone 41 e refl refl)
+  too-long g h = let e : 41 ≡ restoreCode b = rw (le-ltb (length b) 40 g, lt-ltb maxRecord (length b) h) in (e, alone 41 e refl refl)
 
-  pub not-laid : 40 ≤ length b → length b ≤ 29844 → endsAt (length b) (bodiesOf 5 b) ≡ false → (42 ≡ restoreCode b) × (0 ≡ restoreSecond b)
+  pub not-laid : 40 ≤ length b → length b ≤ maxRecord → endsAt (length b) (bodiesOf 5 b) ≡ false → (42 ≡ restoreCode b) × (0 ≡ restoreSecond b)
   unfolding restoreCode
-  not-laid g h e = let q : 42 ≡ restoreCode b = rw (le-ltb (length b) 40 g, le-ltb 29844 (length b) h, e) in (q, alone 42 q refl refl)
+  not-laid g h e = let q : 42 ≡ restoreCode b = rw (le-ltb (length b) 40 g, le-ltb maxRecord (length b) h, e) in (q, alone 42 q refl refl)
 
 -- taking up the record b into lent bytes
 module _ (b lent : List ℕ) where

@@ -4,6 +4,9 @@
 use checkpoint::RestoreAnswer;
 use checkpoint::Saved;
 use checkpoint_judge::judge;
+use net::NET_WORDS;
+use net::NetWords;
+use replay_objects::MAX_RECORD;
 use words::wide;
 ghost use mathlib.Core.Path.{_≡_};
 ghost use Prim.Native.Nat.{_≤_};
@@ -13,9 +16,10 @@ ghost use Rattle.checkpoint.specs.Restore.{restoreCode, restoreSecond};
 ghost use Rattle.checkpoint.specs.Calls.{saveCode, saveBytes};
 ghost use Rattle.checkpoint.specs.Answers.{restoreAnswerCode, restoreAnswerSecond, savedCode};
 ghost use Rattle.checkpoint.specs.Take.{Framed, Opened, takeCode, takeBytes};
+ghost use Rattle.net.specs.Limits.{netWords};
 
 // 44 to 47, of a record whose table is loaded.
-fn check_bodies(rec: &[u8], t: &[u32; 1684]) -> RestoreAnswer
+fn check_bodies(rec: &[u8], t: &NetWords) -> RestoreAnswer
     requires { ⌜ Opened (now rec) (now t) ⌝ }
     ensures { λ r. ⌜ restoreAnswerCode r ≡ restoreCode (now (rec .entry)) ⌝ }
     ensures { λ r. ⌜ restoreAnswerSecond r ≡ restoreSecond (now (rec .entry)) ⌝ }
@@ -28,9 +32,9 @@ fn check_bodies(rec: &[u8], t: &[u32; 1684]) -> RestoreAnswer
 }
 
 // 43 to 47, of a record whose contents are laid out.
-fn check_table(rec: &[u8], t: &mut [u32; 1684]) -> RestoreAnswer
+fn check_table(rec: &[u8], t: &mut NetWords) -> RestoreAnswer
     requires { ⌜ Framed (now rec) ⌝ }
-    requires { ⌜ now t ≡ replicate 1684 0 ⌝ }
+    requires { ⌜ now t ≡ replicate netWords 0 ⌝ }
     ensures { λ r. ⌜ restoreAnswerCode r ≡ restoreCode (now (rec .entry)) ⌝ }
     ensures { λ r. ⌜ restoreAnswerSecond r ≡ restoreSecond (now (rec .entry)) ⌝ }
     ensures { λ _. ⌜ (restoreCode (now (rec .entry)) ≡ 0 → Opened (now (rec .entry)) (now (t .exit))) ⌝ }
@@ -44,8 +48,8 @@ fn check_table(rec: &[u8], t: &mut [u32; 1684]) -> RestoreAnswer
 }
 
 // Checks a record, any bytes. The words t, all zero, are work space; where the record is taken, they hold its net.
-pub fn check(rec: &[u8], t: &mut [u32; 1684]) -> RestoreAnswer
-    requires { ⌜ now t ≡ replicate 1684 0 ⌝ }
+pub fn check(rec: &[u8], t: &mut NetWords) -> RestoreAnswer
+    requires { ⌜ now t ≡ replicate netWords 0 ⌝ }
     ensures { λ r. ⌜ restoreAnswerCode r ≡ restoreCode (now (rec .entry)) ⌝ }
     ensures { λ r. ⌜ restoreAnswerSecond r ≡ restoreSecond (now (rec .entry)) ⌝ }
     ensures { λ _. ⌜ (restoreCode (now (rec .entry)) ≡ 0 → Opened (now (rec .entry)) (now (t .exit))) ⌝ }
@@ -53,7 +57,7 @@ pub fn check(rec: &[u8], t: &mut [u32; 1684]) -> RestoreAnswer
     if rec.len() < 40 {
         return RestoreAnswer::Length;
     }
-    if 29844 < rec.len() {
+    if MAX_RECORD < rec.len() {
         return RestoreAnswer::Length;
     }
     if !words::laid_out(rec, 5) {
@@ -94,7 +98,7 @@ pub fn restore(rec: &[u8], trail: &mut [u8]) -> RestoreAnswer
     ensures { λ r. ⌜ restoreAnswerSecond r ≡ restoreSecond (now (rec .entry)) ⌝ }
     ensures { λ _. ⌜ now (trail .exit) ≡ takeBytes (now (rec .entry)) (now (trail .entry)) ⌝ }
 {
-    let mut t = [0u32; 1684];
+    let mut t = [0u32; NET_WORDS];
     let answer = check(rec, &mut t);
     if checkpoint::number(answer) != 0 {
         return answer;

@@ -15,6 +15,7 @@ use Rattle.client_answers.specs.Answers.{packed, wrote}
 use Rattle.client_check.specs.Checked.{Checked}
 use Rattle.client_check.proofs.Checks.{stop-answer, stop-bytes, go-answer, go-bytes}
 use Rattle.client.specs.Client.{askAnswer, askLeaves, restoreAnswer, saveAnswer, saveLeaves}
+use Rattle.replay.specs.Limits.{maxRecord}
 
 module _ (b w : List ℕ) (r : ℕ) (C : Checked b w r) where
   -- the trail is refused
@@ -40,9 +41,9 @@ module _ (b w : List ℕ) (r : ℕ) (C : Checked b w r) where
 
 -- taking up the record r
 module _ (r : List ℕ) (room : ℕ) where
-  pub restore-le : takeCode r room ≡ 0 → length r ≤ 29844
+  pub restore-le : takeCode r room ≡ 0 → length r ≤ maxRecord
   unfolding takeCode
-  restore-le z = ltb-false 29844 (length r) (none-apply (takeTests r room) (omega arith) z .1 .0)
+  restore-le z = ltb-false maxRecord (length r) (none-apply (takeTests r room) (omega arith) z .1 .0)
 
   pub restore-refused : (n c s : ℕ) → n ≡ packed c s → c ≡ takeCode r room → s ≡ restoreSecond r → (c ≡ 0 → ⊥) → n ≡ restoreAnswer r room
   unfolding restoreAnswer

@@ -22,13 +22,14 @@ use Rattle.client_answers.specs.Answers.{number}
 use Rattle.client.specs.Client.{beginCode, saveAnswer}
 use Rattle.client.specs.MaxRecord.{MaxRecord}
 use Rattle.client.proofs.Numbers.{start-number, start-le, save-number, restore-number}
+use Rattle.replay.specs.Limits.{maxRecord}
 
 pub restore-few : (b : List ℕ) → restoreCode b ≤ 47
 unfolding restoreCode
 restore-few b = first-le 47 (restoreTests b) (omega arith)
 
 -- restoring: 41 to 47, or there is room
-module _ (r : List ℕ) (room : ℕ) (h : 29844 ≤ room) where
+module _ (r : List ℕ) (room : ℕ) (h : maxRecord ≤ room) where
   take-fits : takeCode r room ≡ 61 → ⊥
   unfolding takeCode restoreCode
   take-fits e = go (ℕ-discrete (restoreCode r) 0)
@@ -38,7 +39,7 @@ module _ (r : List ℕ) (room : ℕ) (h : 29844 ≤ room) where
       go (no n) = omega (arith, first-stays (restoreTests r) ((ltb room (length r), 61) ∷ []) n, restore-few r)
 
 -- starting: the table's numbers, 11 and 12, or there is room
-module _ (table ks : List ℕ) (room : ℕ) (h : 29844 ≤ room) (z : loadCode table ≡ 0) where
+module _ (table ks : List ℕ) (room : ℕ) (h : maxRecord ≤ room) (z : loadCode table ≡ 0) where
   code-taken : registerCode (netOf table) ks ≡ 0 → startCode table ks room ≡ 0
   unfolding startCode
   code-taken r = first-then (registerTests (netOf table) ks) ((ltb room (length (startRecord table ks)), 61) ∷ []) r (omega arith)
@@ -55,11 +56,11 @@ module _ (table ks : List ℕ) (room : ℕ) (h : 29844 ≤ room) (z : loadCode t
       go (yes r) = omega (arith, code-taken r)
       go (no n) = omega (arith, first-stays (registerTests (netOf table) ks) ((ltb room (length (startRecord table ks)), 61) ∷ []) n, register-few)
 
-begin-taken : (table objects : List ℕ) (room : ℕ) → loadCode table ≡ 0 → length objects % 4 ≡ 0 → registerCode (netOf table) (wordsOf objects) ≡ 0 → 29844 ≤ room → beginCode table objects room ≡ 0
+begin-taken : (table objects : List ℕ) (room : ℕ) → loadCode table ≡ 0 → length objects % 4 ≡ 0 → registerCode (netOf table) (wordsOf objects) ≡ 0 → maxRecord ≤ room → beginCode table objects room ≡ 0
 unfolding beginCode
 begin-taken table objects room z f r h = rw (eq-eqb (loadCode table) 0 z, eq-eqb (length objects % 4) 0 f) (code-taken table (wordsOf objects) room h z r)
 
-begin-fits : (table objects : List ℕ) (room : ℕ) → 29844 ≤ room → beginCode table objects room ≡ 61 → ⊥
+begin-fits : (table objects : List ℕ) (room : ℕ) → maxRecord ≤ room → beginCode table objects room ≡ 61 → ⊥
 unfolding beginCode
 begin-fits table objects room h e = go (ℕ-discrete (loadCode table) 0) (ℕ-discrete (length objects % 4) 0)
   where
@@ -73,7 +74,7 @@ pub room-saves : (b : List ℕ) (room : ℕ) → length b ≤ room → saveCode 
 unfolding saveCode
 room-saves b room h = rw (le-ltb room (length b) h)
 
-module _ (b : List ℕ) (room : ℕ) (h : 29844 ≤ room) where
+module _ (b : List ℕ) (room : ℕ) (h : maxRecord ≤ room) where
   saves-fit : number (saveAnswer b room) ≡ 61 → ⊥
   unfolding saveAnswer
   saves-fit e = go (ℕ-discrete (restoreCode b) 0)

@@ -28,6 +28,7 @@ use Rattle.checkpoint.specs.Take.{takeTests, takeCode, takeBytes}
 use Rattle.checkpoint_restore.proofs.Lent.{saved-front, restored-front}
 use Rattle.client_answers.specs.Answers.{packed, number, second, wrote}
 use Rattle.client.specs.Client.{beginCode, startAnswer, startLeaves, askAnswer, askLeaves, restoreAnswer, saveAnswer, saveLeaves}
+use Rattle.replay.specs.Limits.{maxRecord}
 
 number-is : (n s : ℕ) → n ≤ 61 → number (packed n s) ≡ n
 number-is n s h = omega arith
@@ -111,7 +112,7 @@ module _ (table ks : List ℕ) where
   registers room z = first-zero (registerTests (netOf table) ks)
       (none-split (registerTests (netOf table) ks) ((ltb room (length (startRecord table ks)), 61) ∷ []) (none-apply (startTests table ks room) (omega arith) z) .0)
 
-  pub start-le : loadCode table ≡ 0 → registerCode (netOf table) ks ≡ 0 → length (startRecord table ks) ≤ 29844
+  pub start-le : loadCode table ≡ 0 → registerCode (netOf table) ks ≡ 0 → length (startRecord table ks) ≤ maxRecord
   unfolding startRecord
   start-le z r = let L : Loaded (netOf table) = promise table z in
       encode-le (netOf table) L table (startState (netOf table) ks) (sound-start (netOf table) L ks (registered (netOf table) ks r)) (table-size table z .1)

@@ -16,6 +16,8 @@ use Rattle.replay_start.proofs.StartLaws.{table-few, objects-few, record-size}
 use Rattle.client_answers.specs.Answers.{packed}
 use Rattle.client.proofs.Numbers.{registers, start-le}
 use Rattle.client.specs.Client.{beginCode, startAnswer, startLeaves}
+use Rattle.net.specs.Limits.{maxTable}
+use Rattle.replay.specs.Limits.{maxRecord}
 
 module _ (table objects lent : List ℕ) where
   -- a refusal before the register is looked at
@@ -51,11 +53,11 @@ module _ (table objects lent : List ℕ) where
       taken : registerCode (netOf table) (wordsOf objects) ≡ 0
       taken = registers table (wordsOf objects) (length lent) z
 
-      pub sizes : (length table ≤ 4704) × (length objects ≤ 4096)
+      pub sizes : (length table ≤ maxTable) × (length objects ≤ 4096)
       sizes = (table-few t table objects S taken, objects-few t table objects S taken)
 
       module _ (m : ℕ) (e : m ≡ 40 + length table + length objects + length objects + 4 * countsSize (netIn t) + 4 * (netIn t .places * netIn t .places)) where
-        pub size-le : m ≤ 29844
+        pub size-le : m ≤ maxRecord
         size-le = omega (arith, record-size t table objects S taken, start-le table (wordsOf objects) (S .tabled .taken) taken)
 
         pub start-taken : (n : ℕ) (x : List ℕ) → n ≡ packed 0 m → x ≡ startBytes table (wordsOf objects) lent

@@ -10,15 +10,16 @@ use Rattle.replay.specs.Calls.{startRecord}
 use Rattle.checkpoint.specs.Restore.{restoreCode}
 use Rattle.client_answers.specs.Answers.{number}
 use Rattle.client.specs.Client.{startAnswer, restoreAnswer, saveAnswer}
+use Rattle.replay.specs.Limits.{maxRecord}
 
 pub record MaxRecord : Type 0 where
   -- no record is longer: not one that starting writes, nor one to which none of 41 to 47 applies
-  pub start-le : (table ks : List ℕ) → loadCode table ≡ 0 → registerCode (netOf table) ks ≡ 0 → length (startRecord table ks) ≤ 29844
-  pub trail-le : (b : List ℕ) → restoreCode b ≡ 0 → length b ≤ 29844
+  pub start-le : (table ks : List ℕ) → loadCode table ≡ 0 → registerCode (netOf table) ks ≡ 0 → length (startRecord table ks) ≤ maxRecord
+  pub trail-le : (b : List ℕ) → restoreCode b ≡ 0 → length b ≤ maxRecord
   -- so starting is taken where the table loads, the register is of whole rows and taken, and as many bytes are lent
-  pub starts : (table objects : List ℕ) (room : ℕ) → loadCode table ≡ 0 → length objects % 4 ≡ 0 → registerCode (netOf table) (wordsOf objects) ≡ 0 → 29844 ≤ room
+  pub starts : (table objects : List ℕ) (room : ℕ) → loadCode table ≡ 0 → length objects % 4 ≡ 0 → registerCode (netOf table) (wordsOf objects) ≡ 0 → maxRecord ≤ room
       → number (startAnswer table objects room) ≡ 0
   -- and 61 is not the answer where as many bytes are lent
-  pub start-fits : (table objects : List ℕ) (room : ℕ) → 29844 ≤ room → number (startAnswer table objects room) ≡ 61 → ⊥
-  pub save-fits : (b : List ℕ) (room : ℕ) → 29844 ≤ room → number (saveAnswer b room) ≡ 61 → ⊥
-  pub restore-fits : (r : List ℕ) (room : ℕ) → 29844 ≤ room → number (restoreAnswer r room) ≡ 61 → ⊥
+  pub start-fits : (table objects : List ℕ) (room : ℕ) → maxRecord ≤ room → number (startAnswer table objects room) ≡ 61 → ⊥
+  pub save-fits : (b : List ℕ) (room : ℕ) → maxRecord ≤ room → number (saveAnswer b room) ≡ 61 → ⊥
+  pub restore-fits : (r : List ℕ) (room : ℕ) → maxRecord ≤ room → number (restoreAnswer r room) ≡ 61 → ⊥

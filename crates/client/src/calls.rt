@@ -5,6 +5,7 @@ use client_answers::event_code;
 use client_answers::pack;
 use client_answers::start_code;
 use client_check::objects::whole_rows;
+use net::NetWords;
 ghost use mathlib.Core.Path.{_≡_};
 ghost use Prim.Native.Nat.{_≤_};
 ghost use lib.ListN.{length};
@@ -19,9 +20,10 @@ ghost use Rattle.checkpoint.specs.Calls.{saveCode, saveBytes};
 ghost use Rattle.client_answers.specs.Answers.{packed, wrote};
 ghost use Rattle.client_check.specs.Objects.{objectsIn};
 ghost use Rattle.client.specs.Client.{startAnswer, startLeaves};
+ghost use Rattle.replay.specs.Limits.{maxRecord};
 
 // An event whose objects are the numbers of the rows.
-fn put_rows(trail: &mut [u8], t: &[u32; 1684], activity: u32, rows: &[u8]) -> u64
+fn put_rows(trail: &mut [u8], t: &NetWords, activity: u32, rows: &[u8]) -> u64
     requires { ⌜ Ready (now t) (now trail) ⌝ }
     ensures { λ r. ⌜ (r ≡ packed (askCode (now (trail .entry)) (askEvent activity (wordsOf (now (rows .entry))))) 0) × (now (trail .exit) ≡ askBytes (now (trail .entry)) (askEvent activity (wordsOf (now (rows .entry))))) ⌝ }
 {
@@ -32,7 +34,7 @@ fn put_rows(trail: &mut [u8], t: &[u32; 1684], activity: u32, rows: &[u8]) -> u6
 }
 
 // An event with a list of objects: its rows, or nine objects for a list of no whole rows or over eight.
-pub fn put_event(trail: &mut [u8], t: &[u32; 1684], activity: u32, objects: &[u8]) -> u64
+pub fn put_event(trail: &mut [u8], t: &NetWords, activity: u32, objects: &[u8]) -> u64
     requires { ⌜ Ready (now t) (now trail) ⌝ }
     ensures { λ r. ⌜ (r ≡ packed (askCode (now (trail .entry)) (askEvent activity (objectsIn (now (objects .entry))))) 0) × (now (trail .exit) ≡ askBytes (now (trail .entry)) (askEvent activity (objectsIn (now (objects .entry))))) ⌝ }
 {
@@ -43,7 +45,7 @@ pub fn put_event(trail: &mut [u8], t: &[u32; 1684], activity: u32, objects: &[u8
     put_rows(trail, t, activity, &nine)
 }
 
-pub fn put_close(trail: &mut [u8], t: &[u32; 1684]) -> u64
+pub fn put_close(trail: &mut [u8], t: &NetWords) -> u64
     requires { ⌜ Ready (now t) (now trail) ⌝ }
     ensures { λ r. ⌜ (r ≡ packed (askCode (now (trail .entry)) askClose) 0) × (now (trail .exit) ≡ askBytes (now (trail .entry)) askClose) ⌝ }
 {
@@ -51,7 +53,7 @@ pub fn put_close(trail: &mut [u8], t: &[u32; 1684]) -> u64
 }
 
 pub fn put_save(trail: &[u8], lent: &mut [u8]) -> u64
-    requires { ⌜ length (now trail) ≤ 29844 ⌝ }
+    requires { ⌜ length (now trail) ≤ maxRecord ⌝ }
     ensures { λ r. ⌜ (r ≡ wrote (saveCode (now (trail .entry)) (length (now (lent .entry)))) (length (now (trail .entry)))) × (now (lent .exit) ≡ saveBytes (now (trail .entry)) (now (lent .entry))) ⌝ }
 {
     let code = checkpoint::saved_number(checkpoint_restore::save(trail, lent));
@@ -62,7 +64,7 @@ pub fn put_save(trail: &[u8], lent: &mut [u8]) -> u64
 }
 
 // Starting with a register of whole rows.
-fn begin_rows(t: &[u32; 1684], table: &[u8], objects: &[u8], trail: &mut [u8]) -> u64
+fn begin_rows(t: &NetWords, table: &[u8], objects: &[u8], trail: &mut [u8]) -> u64
     requires { ⌜ Startable (now t) (now table) (now objects) ⌝ }
     ensures { λ r. ⌜ (r ≡ startAnswer (now (table .entry)) (now (objects .entry)) (length (now (trail .entry)))) × (now (trail .exit) ≡ startLeaves (now (table .entry)) (now (objects .entry)) (now (trail .entry))) ⌝ }
 {
@@ -77,7 +79,7 @@ fn begin_rows(t: &[u32; 1684], table: &[u8], objects: &[u8], trail: &mut [u8]) -
 }
 
 // Starting with a table that is loaded.
-pub fn begin(t: &[u32; 1684], table: &[u8], objects: &[u8], trail: &mut [u8]) -> u64
+pub fn begin(t: &NetWords, table: &[u8], objects: &[u8], trail: &mut [u8]) -> u64
     requires { ⌜ Tabled (now t) (now table) ⌝ }
     ensures { λ r. ⌜ (r ≡ startAnswer (now (table .entry)) (now (objects .entry)) (length (now (trail .entry)))) × (now (trail .exit) ≡ startLeaves (now (table .entry)) (now (objects .entry)) (now (trail .entry))) ⌝ }
 {

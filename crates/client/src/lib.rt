@@ -10,6 +10,7 @@ use client_check::check::checked;
 use client_write::Line;
 use client_write::write_numbers;
 use client_write::write_text;
+use net::NET_WORDS;
 ghost use mathlib.Core.Path.{_≡_};
 ghost use mathlib.Core.List.{[]};
 ghost use lib.ListN.{length};
@@ -30,7 +31,7 @@ mod calls;
 pub extern "C" fn conform_load(table: &[u8]) -> u64
     ensures { λ r. ⌜ r ≡ loadAnswer (now (table .entry)) ⌝ }
 {
-    let mut t = [0u32; 1684];
+    let mut t = [0u32; NET_WORDS];
     pack(net::number(net_loader::load_fresh(table, &mut t)), 0)
 }
 
@@ -40,7 +41,7 @@ pub extern "C" fn conform_start(table: &[u8], objects: &[u8], trail: &mut [u8]) 
     ensures { λ r. ⌜ r ≡ startAnswer (now (table .entry)) (now (objects .entry)) (length (now (trail .entry))) ⌝ }
     ensures { λ _. ⌜ now (trail .exit) ≡ startLeaves (now (table .entry)) (now (objects .entry)) (now (trail .entry)) ⌝ }
 {
-    let mut t = [0u32; 1684];
+    let mut t = [0u32; NET_WORDS];
     let refused = net::number(net_loader::load_fresh(table, &mut t));
     if refused != 0 {
         return pack(refused, 0);
@@ -54,7 +55,7 @@ pub extern "C" fn conform_event(trail: &mut [u8], activity: u32, objects: &[u8])
     ensures { λ r. ⌜ r ≡ askAnswer (now (trail .entry)) (askEvent activity (objectsIn (now (objects .entry)))) ⌝ }
     ensures { λ _. ⌜ now (trail .exit) ≡ askLeaves (now (trail .entry)) (askEvent activity (objectsIn (now (objects .entry)))) ⌝ }
 {
-    let mut t = [0u32; 1684];
+    let mut t = [0u32; NET_WORDS];
     let refused = checked(trail, &mut t);
     if refused != 0 {
         return refused;
@@ -68,7 +69,7 @@ pub extern "C" fn conform_close(trail: &mut [u8]) -> u64
     ensures { λ r. ⌜ r ≡ askAnswer (now (trail .entry)) askClose ⌝ }
     ensures { λ _. ⌜ now (trail .exit) ≡ askLeaves (now (trail .entry)) askClose ⌝ }
 {
-    let mut t = [0u32; 1684];
+    let mut t = [0u32; NET_WORDS];
     let refused = checked(trail, &mut t);
     if refused != 0 {
         return refused;
@@ -96,7 +97,7 @@ pub extern "C" fn conform_save(trail: &[u8], lent: &mut [u8]) -> u64
     ensures { λ r. ⌜ r ≡ saveAnswer (now (trail .entry)) (length (now (lent .entry))) ⌝ }
     ensures { λ _. ⌜ now (lent .exit) ≡ saveLeaves (now (trail .entry)) (now (lent .entry)) ⌝ }
 {
-    let mut t = [0u32; 1684];
+    let mut t = [0u32; NET_WORDS];
     let refused = checked(trail, &mut t);
     if refused != 0 {
         return refused;

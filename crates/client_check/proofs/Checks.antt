@@ -17,6 +17,7 @@ use Rattle.checkpoint.proofs.Restored.{restore-intact, restored-le}
 use Rattle.client_answers.specs.Answers.{packed}
 use Rattle.client_check.specs.OnTrail.{onTrail, leftBy}
 use Rattle.client_check.specs.Checked.{Checked}
+use Rattle.replay.specs.Limits.{maxRecord}
 
 -- a trail that is taken has no second number
 no-second : (b : List ℕ) → restoreCode b ≡ 0 → restoreSecond b ≡ 0
@@ -47,7 +48,7 @@ module _ (b w : List ℕ) (r : ℕ) (C : Checked b w r) where
     taken : restoreCode b ≡ 0
     taken = omega (arith, C .answer)
 
-    pub few : length b ≤ 29844
+    pub few : length b ≤ maxRecord
     few = restored-le b taken
 
     pub go-answer : (own : ℕ) → own ≡ onTrail b own

@@ -1,6 +1,7 @@
 // The whole numbers of the lines, as four-byte numbers in lent bytes. Above `replay_counts` and `report`, and beside `client_answers`.
 
 use lines::LineAnswer;
+use net::NetWords;
 use replay_counts::ActRead;
 use replay_counts::PairRead;
 use replay_counts::PlaceRead;
@@ -41,7 +42,7 @@ fn write_four(a: u32, b: u32, c: u32, d: u32, out: &mut [u8]) -> LineAnswer
 }
 
 // Objects, events, jumps, transfers.
-pub fn trail_numbers(rec: &[u8], t: &[u32; 1684], out: &mut [u8]) -> LineAnswer
+pub fn trail_numbers(rec: &[u8], t: &NetWords, out: &mut [u8]) -> LineAnswer
     requires { ⌜ Ready (now t) (now rec) ⌝ }
     ensures { λ r. ⌜ Writes [] (trailNumbers (now (rec .entry))) (now (out .entry)) r (now (out .exit)) ⌝ }
 {
@@ -50,7 +51,7 @@ pub fn trail_numbers(rec: &[u8], t: &[u32; 1684], out: &mut [u8]) -> LineAnswer
 }
 
 // The number of place q, TAKEN, IN, OUT.
-pub fn place_numbers(rec: &[u8], t: &[u32; 1684], q: u32, out: &mut [u8]) -> LineAnswer
+pub fn place_numbers(rec: &[u8], t: &NetWords, q: u32, out: &mut [u8]) -> LineAnswer
     requires { ⌜ Ready (now t) (now rec) ⌝ }
     ensures { λ r. ⌜ Writes (placeTests (now (rec .entry)) q) (placeNumbers (now (rec .entry)) q) (now (out .entry)) r (now (out .exit)) ⌝ }
 {
@@ -61,7 +62,7 @@ pub fn place_numbers(rec: &[u8], t: &[u32; 1684], q: u32, out: &mut [u8]) -> Lin
 }
 
 // The number of activity a, FIRED, MOVED, JUMPS.
-pub fn act_numbers(rec: &[u8], t: &[u32; 1684], a: u32, out: &mut [u8]) -> LineAnswer
+pub fn act_numbers(rec: &[u8], t: &NetWords, a: u32, out: &mut [u8]) -> LineAnswer
     requires { ⌜ Ready (now t) (now rec) ⌝ }
     ensures { λ r. ⌜ Writes (actTests (now (rec .entry)) a) (actNumbers (now (rec .entry)) a) (now (out .entry)) r (now (out .exit)) ⌝ }
 {
@@ -72,7 +73,7 @@ pub fn act_numbers(rec: &[u8], t: &[u32; 1684], a: u32, out: &mut [u8]) -> LineA
 }
 
 // The two places of a pair and its jump count.
-pub fn pair_numbers(rec: &[u8], t: &[u32; 1684], from: u32, to: u32, out: &mut [u8]) -> LineAnswer
+pub fn pair_numbers(rec: &[u8], t: &NetWords, from: u32, to: u32, out: &mut [u8]) -> LineAnswer
     requires { ⌜ Ready (now t) (now rec) ⌝ }
     ensures { λ r. ⌜ Writes (pairTests (now (rec .entry)) from to) (pairNumbers (now (rec .entry)) from to) (now (out .entry)) r (now (out .exit)) ⌝ }
 {

@@ -4,6 +4,8 @@
 use client_answers::written;
 use client_check::check::checked;
 use lines::LineAnswer;
+use net::NET_WORDS;
+use net::NetWords;
 ghost use mathlib.Core.Path.{_≡_};
 ghost use Rattle.replay.specs.Ready.{Ready};
 ghost use Rattle.lines.specs.Answer.{Writes};
@@ -18,7 +20,7 @@ pub enum Line {
 }
 
 // The line itself, for a trail that is checked.
-fn put_text(trail: &[u8], t: &[u32; 1684], which: Line, out: &mut [u8]) -> LineAnswer
+fn put_text(trail: &[u8], t: &NetWords, which: Line, out: &mut [u8]) -> LineAnswer
     requires { ⌜ Ready (now t) (now trail) ⌝ }
     ensures { λ r. ⌜ Writes (lineTests (now (trail .entry)) which) (lineText (now (trail .entry)) which) (now (out .entry)) r (now (out .exit)) ⌝ }
 {
@@ -31,7 +33,7 @@ fn put_text(trail: &[u8], t: &[u32; 1684], which: Line, out: &mut [u8]) -> LineA
 }
 
 // Its whole numbers, for a trail that is checked.
-fn put_numbers(trail: &[u8], t: &[u32; 1684], which: Line, out: &mut [u8]) -> LineAnswer
+fn put_numbers(trail: &[u8], t: &NetWords, which: Line, out: &mut [u8]) -> LineAnswer
     requires { ⌜ Ready (now t) (now trail) ⌝ }
     ensures { λ r. ⌜ Writes (lineTests (now (trail .entry)) which) (lineNumbers (now (trail .entry)) which) (now (out .entry)) r (now (out .exit)) ⌝ }
 {
@@ -48,7 +50,7 @@ pub fn write_text(trail: &[u8], which: Line, out: &mut [u8]) -> u64
     ensures { λ r. ⌜ r ≡ writeAnswer (now (trail .entry)) (lineTests (now (trail .entry)) which) (lineText (now (trail .entry)) which) (now (out .entry)) ⌝ }
     ensures { λ _. ⌜ now (out .exit) ≡ writeLeaves (now (trail .entry)) (lineTests (now (trail .entry)) which) (lineText (now (trail .entry)) which) (now (out .entry)) ⌝ }
 {
-    let mut t = [0u32; 1684];
+    let mut t = [0u32; NET_WORDS];
     let refused = checked(trail, &mut t);
     if refused != 0 {
         return refused;
@@ -61,7 +63,7 @@ pub fn write_numbers(trail: &[u8], which: Line, out: &mut [u8]) -> u64
     ensures { λ r. ⌜ r ≡ writeAnswer (now (trail .entry)) (lineTests (now (trail .entry)) which) (lineNumbers (now (trail .entry)) which) (now (out .entry)) ⌝ }
     ensures { λ _. ⌜ now (out .exit) ≡ writeLeaves (now (trail .entry)) (lineTests (now (trail .entry)) which) (lineNumbers (now (trail .entry)) which) (now (out .entry)) ⌝ }
 {
-    let mut t = [0u32; 1684];
+    let mut t = [0u32; NET_WORDS];
     let refused = checked(trail, &mut t);
     if refused != 0 {
         return refused;

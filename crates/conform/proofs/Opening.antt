@@ -20,6 +20,7 @@ use Rattle.trace_header.specs.declared.Contents.the-variants.{Bodies}
 use Rattle.trace_header.specs.Opening.{contentsTests, contentsOf, openCode}
 use Rattle.trace_header.proofs.OpenLaws.{contents-bodies, not-refused}
 use Rattle.program_events.specs.Follows.{Follows}
+use Rattle.replay.specs.Limits.{maxRecord}
 
 -- a register claims whole rows
 pub whole-rows : (f : List ℕ) (r e : ℕ) → contentsOf f ≡ Bodies r e → r % 4 ≡ 0
@@ -49,7 +50,7 @@ module _ (t table register : List ℕ) (S : Startable t table register) (ok : re
       }
 
   -- starting cannot be refused, and leaves the record in front of the lent bytes
-  pub started : (lent b : List ℕ) (n : ℕ) → 29844 ≤ length lent → b ≡ startBytes table (wordsOf register) lent → n ≡ length (startRecord table (wordsOf register))
+  pub started : (lent b : List ℕ) (n : ℕ) → maxRecord ≤ length lent → b ≡ startBytes table (wordsOf register) lent → n ≡ length (startRecord table (wordsOf register))
       → take n b ≡ startRecord table (wordsOf register)
   started lent b n h e m =
       let z = taken table register lent ok (omega (arith, start-fits t table register S ok)) .0 in

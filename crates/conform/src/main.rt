@@ -5,6 +5,9 @@
 // bytes handed in are the front (`specs/FromFile.antt`). That standard input is that file, and that what is given back is what is
 // written, no contract can say, and is tested.
 
+use net::MAX_TABLE;
+use net::NET_WORDS;
+use net::NetWords;
 use program_events::follow;
 use program_input::has_arguments;
 use program_input::read_file;
@@ -12,6 +15,7 @@ use program_input::read_some;
 use program_input::skip;
 use program_output::Ending;
 use program_output::print;
+use replay_objects::MAX_RECORD;
 use trace_header::Contents;
 use trace_header::opening_refusal;
 use trace_header::read_contents;
@@ -28,26 +32,28 @@ ghost use Rattle.trace_header.specs.Opening.{openCode};
 ghost use Rattle.program_output.specs.declared.Ending.the-variants.{Refused};
 ghost use Rattle.program_output.specs.Ending.{Printable};
 ghost use Rattle.conform.specs.FromFile.{FromFile, BehindContents, BehindRegister};
+ghost use Rattle.net.specs.Limits.{netWords};
+ghost use Rattle.replay.specs.Limits.{maxRecord};
 
 // Room for the longest record.
-fn record_buffer() -> [u8; 29844]
-    ensures { λ r. ⌜ 29844 ≡ length r ⌝ }
+fn record_buffer() -> [u8; MAX_RECORD]
+    ensures { λ r. ⌜ maxRecord ≡ length r ⌝ }
 {
-    [0; 29844]
+    [0; MAX_RECORD]
 }
 
 // Room for a loaded net.
-fn net_buffer() -> [u32; 1684]
-    ensures { λ r. ⌜ r ≡ replicate 1684 0 ⌝ }
+fn net_buffer() -> NetWords
+    ensures { λ r. ⌜ r ≡ replicate netWords 0 ⌝ }
 {
-    [0; 1684]
+    [0; NET_WORDS]
 }
 
 // A register that is not refused: the trail is started, which nothing can refuse here, and its events are followed. The first n
 // bytes of the buffer are those that were read first behind the register.
 fn begin(
     table: &[u8],
-    t: &[u32; 1684],
+    t: &NetWords,
     register: &[u8],
     body: usize,
     rec: &mut [u8],
@@ -56,7 +62,7 @@ fn begin(
 ) -> Ending
     requires { ⌜ Startable (now t) (now table) (now register) ⌝ }
     requires { ⌜ registerCode (netOf (now table)) (wordsOf (now register)) ≡ 0 ⌝ }
-    requires { ⌜ 29844 ≤ length (now rec) ⌝ }
+    requires { ⌜ maxRecord ≤ length (now rec) ⌝ }
     requires { ⌜ (40 ≤ length (now buf)) × (n ≤ length (now buf)) ⌝ }
     ensures text { λ r. ⌜ BehindRegister (now (table .entry)) (now (register .entry)) body (take n (now (buf .entry))) (length (now (buf .entry))) r (now (rec .exit)) ⌝ }
     ensures printable { λ r. ⌜ Printable (now (t .entry)) (now (rec .exit)) r ⌝ }
@@ -67,16 +73,10 @@ fn begin(
 }
 
 // Reads the first part of the events.
-fn read_events(
-    table: &[u8],
-    t: &[u32; 1684],
-    register: &[u8],
-    body: usize,
-    rec: &mut [u8],
-) -> Ending
+fn read_events(table: &[u8], t: &NetWords, register: &[u8], body: usize, rec: &mut [u8]) -> Ending
     requires { ⌜ Startable (now t) (now table) (now register) ⌝ }
     requires { ⌜ registerCode (netOf (now table)) (wordsOf (now register)) ≡ 0 ⌝ }
-    requires { ⌜ 29844 ≤ length (now rec) ⌝ }
+    requires { ⌜ maxRecord ≤ length (now rec) ⌝ }
     ensures text { λ r. ⌜ BehindRegister (now (table .entry)) (now (register .entry)) body [] 0 r (now (rec .exit)) ⌝ }
     ensures printable { λ r. ⌜ Printable (now (t .entry)) (now (rec .exit)) r ⌝ }
 {
@@ -88,7 +88,7 @@ fn read_events(
 // A register that claims so many bytes, of which those given are there.
 fn open_register(
     table: &[u8],
-    t: &[u32; 1684],
+    t: &NetWords,
     claimed: usize,
     body: usize,
     register: &[u8],
@@ -97,7 +97,7 @@ fn open_register(
     requires { ⌜ Tabled (now t) (now table) ⌝ }
     requires { ⌜ claimed % 4 ≡ 0 ⌝ }
     requires { ⌜ length (now register) ≤ claimed ⌝ }
-    requires { ⌜ 29844 ≤ length (now rec) ⌝ }
+    requires { ⌜ maxRecord ≤ length (now rec) ⌝ }
     ensures text { λ r. ⌜ BehindContents (now (table .entry)) claimed body (now (register .entry)) claimed r (now (rec .exit)) ⌝ }
     ensures printable { λ r. ⌜ Printable (now (t .entry)) (now (rec .exit)) r ⌝ }
 {
@@ -109,16 +109,10 @@ fn open_register(
 }
 
 // Reads a register that can be held whole.
-fn read_register(
-    table: &[u8],
-    t: &[u32; 1684],
-    claimed: usize,
-    body: usize,
-    rec: &mut [u8],
-) -> Ending
+fn read_register(table: &[u8], t: &NetWords, claimed: usize, body: usize, rec: &mut [u8]) -> Ending
     requires { ⌜ Tabled (now t) (now table) ⌝ }
     requires { ⌜ (claimed % 4 ≡ 0) × (claimed ≤ 4096) ⌝ }
-    requires { ⌜ 29844 ≤ length (now rec) ⌝ }
+    requires { ⌜ maxRecord ≤ length (now rec) ⌝ }
     ensures text { λ r. ⌜ BehindContents (now (table .entry)) claimed body [] 0 r (now (rec .exit)) ⌝ }
     ensures printable { λ r. ⌜ Printable (now (t .entry)) (now (rec .exit)) r ⌝ }
 {
@@ -128,7 +122,7 @@ fn read_register(
 }
 
 // A register of more than 4,096 bytes is counted and not held.
-fn pass_register(t: &[u32; 1684], claimed: usize, there: usize) -> Ending
+fn pass_register(t: &NetWords, claimed: usize, there: usize) -> Ending
     requires { ⌜ Held (now t) ⌝ }
     ensures { λ r. ⌜ r ≡ Refused (openCode (netIn (now (t .entry))) claimed there []) 0 ⌝ }
 {
@@ -139,10 +133,10 @@ fn pass_register(t: &[u32; 1684], claimed: usize, there: usize) -> Ending
 }
 
 // A trail file whose contents claim bodies of so many bytes.
-fn open_bodies(table: &[u8], t: &[u32; 1684], claimed: usize, body: usize, rec: &mut [u8]) -> Ending
+fn open_bodies(table: &[u8], t: &NetWords, claimed: usize, body: usize, rec: &mut [u8]) -> Ending
     requires { ⌜ Tabled (now t) (now table) ⌝ }
     requires { ⌜ claimed % 4 ≡ 0 ⌝ }
-    requires { ⌜ 29844 ≤ length (now rec) ⌝ }
+    requires { ⌜ maxRecord ≤ length (now rec) ⌝ }
     ensures text { λ r. ⌜ BehindContents (now (table .entry)) claimed body [] 0 r (now (rec .exit)) ⌝ }
     ensures printable { λ r. ⌜ Printable (now (t .entry)) (now (rec .exit)) r ⌝ }
 {
@@ -153,10 +147,10 @@ fn open_bodies(table: &[u8], t: &[u32; 1684], claimed: usize, body: usize, rec: 
 }
 
 // A trail file, by its first bytes, for a table that is loaded.
-fn open_trail(table: &[u8], t: &[u32; 1684], head: &[u8], rec: &mut [u8]) -> Ending
+fn open_trail(table: &[u8], t: &NetWords, head: &[u8], rec: &mut [u8]) -> Ending
     requires { ⌜ Tabled (now t) (now table) ⌝ }
     requires { ⌜ length (now head) ≤ 16 ⌝ }
-    requires { ⌜ 29844 ≤ length (now rec) ⌝ }
+    requires { ⌜ maxRecord ≤ length (now rec) ⌝ }
     ensures text { λ r. ⌜ FromFile (now (table .entry)) (now (head .entry)) 16 r (now (rec .exit)) ⌝ }
     ensures printable { λ r. ⌜ Printable (now (t .entry)) (now (rec .exit)) r ⌝ }
 {
@@ -170,9 +164,9 @@ fn open_trail(table: &[u8], t: &[u32; 1684], head: &[u8], rec: &mut [u8]) -> End
 }
 
 // Reads the first bytes of the trail file.
-fn read_trail(table: &[u8], t: &[u32; 1684], rec: &mut [u8]) -> Ending
+fn read_trail(table: &[u8], t: &NetWords, rec: &mut [u8]) -> Ending
     requires { ⌜ Tabled (now t) (now table) ⌝ }
-    requires { ⌜ 29844 ≤ length (now rec) ⌝ }
+    requires { ⌜ maxRecord ≤ length (now rec) ⌝ }
     ensures text { λ r. ⌜ FromFile (now (table .entry)) [] 0 r (now (rec .exit)) ⌝ }
     ensures printable { λ r. ⌜ Printable (now (t .entry)) (now (rec .exit)) r ⌝ }
 {
@@ -182,9 +176,9 @@ fn read_trail(table: &[u8], t: &[u32; 1684], rec: &mut [u8]) -> Ending
 }
 
 // What is to be printed, by the table file's bytes and what is read from standard input. The trail is left in the lent bytes.
-fn decide(table: &[u8], t: &mut [u32; 1684], rec: &mut [u8]) -> Ending
-    requires { ⌜ now t ≡ replicate 1684 0 ⌝ }
-    requires { ⌜ 29844 ≤ length (now rec) ⌝ }
+fn decide(table: &[u8], t: &mut NetWords, rec: &mut [u8]) -> Ending
+    requires { ⌜ now t ≡ replicate netWords 0 ⌝ }
+    requires { ⌜ maxRecord ≤ length (now rec) ⌝ }
     ensures text { λ r. ⌜ FromFile (now (table .entry)) [] 0 r (now (rec .exit)) ⌝ }
     ensures printable { λ r. ⌜ Printable (now (t .exit)) (now (rec .exit)) r ⌝ }
 {
@@ -200,7 +194,7 @@ fn decide(table: &[u8], t: &mut [u32; 1684], rec: &mut [u8]) -> Ending
 
 // Reads the table file, of which one byte more than a table may have is enough to refuse it, and prints what is to be printed.
 fn run() {
-    let mut table = [0u8; 4705];
+    let mut table = [0u8; MAX_TABLE + 1];
     let mut t = net_buffer();
     let mut rec = record_buffer();
     let n = read_file(b"route.tab", &mut table);

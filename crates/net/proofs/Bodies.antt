@@ -15,10 +15,11 @@ use Rattle.words.proofs.Words.{length-words}
 use Rattle.words.proofs.Refusals.{None}
 use Rattle.net.specs.Table.{shapeTests}
 use Rattle.net.proofs.Views.{length-pairs}
+use Rattle.net.specs.Limits.{maxTable}
 
 pub record Shaped (b : List ℕ) : Type 0 where
   pub size-ge : 32 ≤ length b
-  pub size-le : length b ≤ 4704
+  pub size-le : length b ≤ maxTable
   pub whole : length b % 4 ≡ 0
   pub start0 : word b 0 ≡ 32
   pub start1 : word b 8 ≡ 32 + word b 4

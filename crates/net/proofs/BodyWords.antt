@@ -12,6 +12,7 @@ use Rattle.net.specs.Table.{netFrom}
 use Rattle.net.specs.Held.{endsIn, placesIn, countsIn, arcsIn, netIn, indexRows, frontWords, bodyWords, Sized}
 use Rattle.net.proofs.Sets.{view-sets, view-same, word-same, word-apart}
 use Rattle.net.proofs.IndexLaws.{rows-length, rows-view, rows-before}
+use Rattle.net.specs.Limits.{netWords}
 
 -- the first three bodies have room
 pub record FitFront (ends places counts : List ℕ) : Type 0 where
@@ -27,7 +28,7 @@ pub record FitArcs (arcs : List ℕ) : Type 0 where
 
 -- what words that hold the first three bodies have
 pub record Front (ends places counts : List ℕ) (n : ℕ) (w : List ℕ) : Type 0 where
-  pub size : length w ≡ 1684
+  pub size : length w ≡ netWords
   pub kinds-at : getD w 0 0 ≡ length ends / 2
   pub places-at : getD w 1 0 ≡ length places
   pub acts-at : getD w 2 0 ≡ length counts
@@ -37,7 +38,7 @@ pub record Front (ends places counts : List ℕ) (n : ℕ) (w : List ℕ) : Type
   pub counts-are : take (length counts) (drop 84 w) ≡ counts
 
 module _ (ends places counts : List ℕ) (F : FitFront ends places counts) (n : ℕ) where
-  module _ (z : List ℕ) (size : length z ≡ 1684) where
+  module _ (z : List ℕ) (size : length z ≡ netWords) where
     heads : List ℕ
     heads = length ends / 2 ∷ length places ∷ length counts ∷ n ∷ []
 
@@ -53,15 +54,15 @@ module _ (ends places counts : List ℕ) (F : FitFront ends places counts) (n : 
     s3 : List ℕ
     s3 = sets s2 84 counts
 
-    size0 : length s0 ≡ 1684
+    size0 : length s0 ≡ netWords
     unfolding s0
     size0 = length-sets z 0 heads ∙ size
 
-    size1 : length s1 ≡ 1684
+    size1 : length s1 ≡ netWords
     unfolding s1
     size1 = length-sets s0 4 ends ∙ size0
 
-    size2 : length s2 ≡ 1684
+    size2 : length s2 ≡ netWords
     unfolding s2
     size2 = length-sets s1 20 places ∙ size1
 
@@ -104,11 +105,11 @@ module _ (ends places counts : List ℕ) (F : FitFront ends places counts) (n : 
 
   pub front-words : Front ends places counts n (frontWords ends places counts n)
   unfolding frontWords s0 s1 s2 s3 heads
-  front-words = stored (replicate 1684 0) (length-replicate {A = ℕ} 1684 0)
+  front-words = stored (replicate netWords 0) (length-replicate {A = ℕ} netWords 0)
 
   front-behind : (j : ℕ) → 1172 ≤ j → getD (frontWords ends places counts n) j 0 ≡ 0
   unfolding frontWords s0 s1 s2 s3 heads
-  front-behind j h = behind (replicate 1684 0) (length-replicate {A = ℕ} 1684 0) j h ∙ zeros-at 1684 j
+  front-behind j h = behind (replicate netWords 0) (length-replicate {A = ℕ} netWords 0) j h ∙ zeros-at netWords j
 
   module _ (w : List ℕ) (H : Front ends places counts n w) where
     pub ends-in : endsIn w ≡ ends

@@ -19,12 +19,13 @@ use Rattle.net.proofs.Sets.{sets-all}
 use Rattle.net.proofs.IndexLaws.{rows-at, arc-has}
 use Rattle.net.proofs.BodyWords.{FitFront, FitArcs, Holds, body-words, no-words, indexed, counts-in, arcs-in, net-in, sized}
 use Rattle.net.proofs.Room.{fit-front, fit-arcs}
+use Rattle.net.specs.Limits.{netWords}
 
 -- the arcs of each activity
 abbrev rowsOf : List ℕ → List (List Arc)
 rowsOf b = parts (bodyOf b 2) (pairUp (bodyOf b 3))
 
-module _ (b w : List ℕ) (size : length w ≡ 1684) (taken : loadCode b ≡ 0) where
+module _ (b w : List ℕ) (size : length w ≡ netWords) (taken : loadCode b ≡ 0) where
   all-arcs : sum (bodyOf b 2) ≡ length (pairUp (bodyOf b 3))
   all-arcs = is-eq _ _ (passed b taken .ends .1 .1 .1 .0)
 
@@ -90,13 +91,13 @@ module _ (b w : List ℕ) (size : length w ≡ 1684) (taken : loadCode b ≡ 0) 
   loaded-index a k h g =
       let l : length (rowsOf b) ≡ length (bodyOf b 2) = length-parts (bodyOf b 2) (pairUp (bodyOf b 3)) in
       let B : List ℕ = bodyWords (bodyOf b 0) (bodyOf b 1) (bodyOf b 2) (bodyOf b 3) in
-      let z : length B ≡ 1684 = body-words (bodyOf b 0) (bodyOf b 1) (bodyOf b 2) (bodyOf b 3) front arcs .front .size in
+      let z : length B ≡ netWords = body-words (bodyOf b 0) (bodyOf b 1) (bodyOf b 2) (bodyOf b 3) front arcs .front .size in
       rw whole
       (rows-at (λ (p : ℕ). getD (bodyOf b 1) p 0) 1172 (rowsOf b) B small once
       (omega (arith, front .counts-few)) (no-words (bodyOf b 0) (bodyOf b 1) (bodyOf b 2) (bodyOf b 3) front arcs) a k (omega arith) (omega (arith, promise b taken .kinds-le)))
 
 -- loading overwrites all words: what they were before does not matter
-pub loaded-same : (b w v : List ℕ) → length w ≡ 1684 → length v ≡ 1684 → loadCode b ≡ 0 → loadedWords b w ≡ loadedWords b v
+pub loaded-same : (b w v : List ℕ) → length w ≡ netWords → length v ≡ netWords → loadCode b ≡ 0 → loadedWords b w ≡ loadedWords b v
 loaded-same b w v e f z = loaded-is b w e z ∙ sym (loaded-is b v f z)
 
 -- the same of any words that hold a loaded net

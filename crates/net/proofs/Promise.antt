@@ -17,6 +17,7 @@ use Rattle.net.specs.Table.{netFrom, netOf, marked, badEnds, badCount, b
 use Rattle.net.proofs.Marks.{Walk, rest, on, marked-is}
 use Rattle.net.proofs.Parts.{sum, length-parts, part-length, All-parts, part-in, in-part}
 use Rattle.net.proofs.Bodies.{Shaped, shaped}
+use Rattle.net.specs.Limits.{maxTable}
 
 -- none of a list of tests holds
 each : (ts : List Bool) → either ts ≡ false → All (λ (t : Bool). t ≡ false) ts
@@ -149,7 +150,7 @@ promise b e =
     sized e l h = (omega arith, omega arith)
 
 -- a table that is taken has a length from 32 to 4,704, in whole numbers
-pub table-size : (b : List ℕ) → loadCode b ≡ 0 → (32 ≤ length b) × (length b ≤ 4704) × (length b % 4 ≡ 0)
+pub table-size : (b : List ℕ) → loadCode b ≡ 0 → (32 ≤ length b) × (length b ≤ maxTable) × (length b % 4 ≡ 0)
 table-size b e = let s = taken-shape b e in (s .size-ge, s .size-le, s .whole)
 
 -- test 9 of kind k, where none of 1 to 7 applies

@@ -9,6 +9,7 @@ use Rattle.words.specs.Lists.{pick, pairUp, parts}
 use Rattle.words.specs.Words.{word, bodyOf}
 use Rattle.net.specs.Net.{Net, Arc}
 use Rattle.net.specs.Table.{netFrom, netOf, loadCode}
+use Rattle.net.specs.Limits.{netWords}
 
 -- Words 0 to 3: how many kinds, places, activities, arcs. Then the table's four bodies, each with room for the most
 -- that it can have: from word 4, 20, 84 and 148. From word 1172 on eight words an activity, one a kind.
@@ -44,7 +45,7 @@ indexRows kindOf base (r ∷ rs) w = indexRows kindOf (base + 8) rs (indexRow ki
 -- the sizes and the first three bodies in words; n is how many arcs the fourth one has
 unfoldable pub frontWords : List ℕ → List ℕ → List ℕ → ℕ → List ℕ
 frontWords ends places counts n =
-    sets (sets (sets (sets (replicate 1684 0) 0 (length ends / 2 ∷ length places ∷ length counts ∷ n ∷ [])) 4 ends) 20 places) 84 counts
+    sets (sets (sets (sets (replicate netWords 0) 0 (length ends / 2 ∷ length places ∷ length counts ∷ n ∷ [])) 4 ends) 20 places) 84 counts
 
 -- the words of the four bodies
 unfoldable pub bodyWords : List ℕ → List ℕ → List ℕ → List ℕ → List ℕ
@@ -69,7 +70,7 @@ afterLoad b w = pick (eqb (loadCode b) 0) (loadedWords b w) w
 pub record Held (w : List ℕ) : Type 0 where
   pub table : List ℕ
   pub before : List ℕ
-  pub size : length before ≡ 1684
+  pub size : length before ≡ netWords
   pub taken : loadCode table ≡ 0
   pub words : w ≡ loadedWords table before
 
@@ -81,7 +82,7 @@ pub record Tabled (w table : List ℕ) : Type 0 where
 
 -- 1,684 words that hold no more kinds, places and activities than test 3 allows
 pub record Sized (w : List ℕ) : Type 0 where
-  pub size : length w ≡ 1684
+  pub size : length w ≡ netWords
   pub kinds : getD w 0 0 ≤ 8
   pub places : getD w 1 0 ≤ 64
   pub acts : getD w 2 0 ≤ 64

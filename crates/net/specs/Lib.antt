@@ -1,3 +1,4 @@
+pub mod Limits
 pub mod Net
 pub mod Table
 pub mod Held

@@ -8,6 +8,7 @@ use Rattle.words.specs.Lists.{pick, any, either, twice, total, anyTo, pairUp, p
 use Rattle.words.specs.Refusals.{first}
 use Rattle.words.specs.Words.{word, bodiesOf, endsAt, bodyOf}
 use Rattle.net.specs.Net.{Net, Arc, kindsOf}
+use Rattle.net.specs.Limits.{maxTable}
 
 -- the net of four bodies: (source, sink) of each kind, the kind of each place, the number of arcs of each
 -- activity, and the arcs (input place, output place), activity 0's first
@@ -70,7 +71,7 @@ rowTests kinds places acts arcs =
 -- 1: the length. 2: the layout, and lengths that are no whole rows. 3: the sizes.
 abbrev pub shapeTests : List ℕ → List (Bool × ℕ)
 shapeTests b =
-    (ltb (length b) 32, 1) ∷ (ltb 4704 (length b), 1)
+    (ltb (length b) 32, 1) ∷ (ltb maxTable (length b), 1)
     ∷ (not (endsAt (length b) (bodiesOf 4 b)), 2)
     ∷ rowTests (word b 4) (word b 12) (word b 20) (word b 28)
 

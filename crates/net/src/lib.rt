@@ -5,7 +5,15 @@
 ghost use mathlib.Core.Path.{_≡_};
 ghost use Rattle.net.specs.Answer.{codeOf};
 
-// Where the parts of a net stand in its 1,684 words, as `specs/Held.antt` says. The source and the sink of a kind stand side by
+// Bytes of the longest route table.
+pub const MAX_TABLE: usize = 4704;
+
+// Words of a loaded net.
+pub const NET_WORDS: usize = 1684;
+
+pub type NetWords = [u32; NET_WORDS];
+
+// Where the parts of a net stand in its words, as `specs/Held.antt` says. The source and the sink of a kind stand side by
 // side, and so do the two places of an arc; the last part has eight words an activity.
 pub const SOURCES: usize = 4;
 

@@ -3,6 +3,7 @@
 
 use net::COUNTS;
 use net::INPUTS;
+use net::NetWords;
 use net::OUTPUTS;
 use net::PLACES;
 use words::wide;
@@ -14,7 +15,7 @@ ghost use Rattle.net.specs.Table.{badCount, badArc};
 ghost use Rattle.net.specs.Held.{netIn, countsIn, arcsIn, Sized};
 
 // 6: an activity with no arcs or over 8.
-pub fn bad_counts(w: &[u32; 1684]) -> bool
+pub fn bad_counts(w: &NetWords) -> bool
     requires { ⌜ Sized (now w) ⌝ }
     ensures { λ r. ⌜ r ≡ any badCount (countsIn (now (w .entry))) ⌝ }
 {
@@ -33,7 +34,7 @@ pub fn bad_counts(w: &[u32; 1684]) -> bool
 }
 
 // 6: how many arcs the activities claim, none of them over 8.
-pub fn sum_counts(w: &[u32; 1684]) -> usize
+pub fn sum_counts(w: &NetWords) -> usize
     requires { ⌜ Sized (now w) ⌝ }
     requires { ⌜ ((i : ℕ) → i < length (countsIn (now w)) → getD (countsIn (now w)) i 0 ≤ 8) ⌝ }
     ensures { λ r. ⌜ r ≡ total (λ (n : ℕ). n) (countsIn (now (w .entry))) ⌝ }
@@ -49,7 +50,7 @@ pub fn sum_counts(w: &[u32; 1684]) -> usize
 }
 
 // The arc from place p to place q breaks test 7.
-fn bad_arc(w: &[u32; 1684], p: usize, q: usize) -> bool
+fn bad_arc(w: &NetWords, p: usize, q: usize) -> bool
     requires { ⌜ Sized (now w) ⌝ }
     ensures { λ r. ⌜ r ≡ badArc (netIn (now (w .entry))) (p, q) ⌝ }
 {
@@ -64,7 +65,7 @@ fn bad_arc(w: &[u32; 1684], p: usize, q: usize) -> bool
 }
 
 // 7: an arc with an unknown place, or with places of two kinds.
-pub fn bad_arcs(w: &[u32; 1684]) -> bool
+pub fn bad_arcs(w: &NetWords) -> bool
     requires { ⌜ Sized (now w) ⌝ }
     requires { ⌜ getD (now w) 3 0 ≤ 512 ⌝ }
     ensures { λ r. ⌜ r ≡ any (badArc (netIn (now (w .entry)))) (pairUp (arcsIn (now (w .entry)))) ⌝ }

@@ -21,6 +21,7 @@ use Rattle.net.proofs.Room.{fit-front, fit-arcs}
 use Rattle.net.proofs.Sets.{sets-all}
 use Rattle.net.proofs.HeldLaws.{loaded-held, loaded-same, held-sized}
 use Rattle.net.proofs.Views.{length-pairs}
+use Rattle.net.specs.Limits.{netWords}
 
 -- words to which neither 3 to 6 nor 7 applies
 pub ruled-by : (w : List ℕ) → Fronted w → any (badArc (netIn w)) (pairUp (arcsIn w)) ≡ false → Ruled w
@@ -39,15 +40,15 @@ refused-words b t n = rw (ne-eqb (loadCode b) 0 n)
 
 -- a table that is taken, loaded into zeros: 1,684 words, and over the lent words they are what loading leaves of those
 module _ (b : List ℕ) (z : loadCode b ≡ 0) where
-  zeros : length {A = ℕ} (replicate 1684 0) ≡ 1684
-  zeros = length-replicate {A = ℕ} 1684 0
+  zeros : length {A = ℕ} (replicate netWords 0) ≡ netWords
+  zeros = length-replicate {A = ℕ} netWords 0
 
-  pub loaded-length : length (loadedWords b (replicate 1684 0)) ≡ 1684
-  loaded-length = held-sized (loadedWords b (replicate 1684 0)) (loaded-held b (replicate 1684 0) zeros z) .size
+  pub loaded-length : length (loadedWords b (replicate netWords 0)) ≡ netWords
+  loaded-length = held-sized (loadedWords b (replicate netWords 0)) (loaded-held b (replicate netWords 0) zeros z) .size
 
-  pub taken-words : (t : List ℕ) → length t ≡ 1684 → sets t 0 (loadedWords b (replicate 1684 0)) ≡ afterLoad b t
+  pub taken-words : (t : List ℕ) → length t ≡ netWords → sets t 0 (loadedWords b (replicate netWords 0)) ≡ afterLoad b t
   unfolding afterLoad
-  taken-words t e = rw (eq-eqb (loadCode b) 0 z) (sets-all t (loadedWords b (replicate 1684 0)) (e ∙ sym loaded-length) ∙ loaded-same b (replicate 1684 0) t zeros e z)
+  taken-words t e = rw (eq-eqb (loadCode b) 0 z) (sets-all t (loadedWords b (replicate netWords 0)) (e ∙ sym loaded-length) ∙ loaded-same b (replicate netWords 0) t zeros e z)
 
 -- the tests behind those of the shape
 abbrev bodyTests : List ℕ → List (Bool × ℕ)
@@ -71,7 +72,7 @@ module _ (b : List ℕ) (z : first (shapeTests b) ≡ 0) where
   D = bodyOf b 3
 
   abbrev w1 : List ℕ
-  w1 = frontOver b (replicate 1684 0)
+  w1 = frontOver b (replicate netWords 0)
 
   abbrev w2 : List ℕ
   w2 = sets w1 148 D
@@ -118,7 +119,7 @@ module _ (b : List ℕ) (z : first (shapeTests b) ≡ 0) where
     H2 = with-arcs A B C D front arcs w1 H1
 
     -- there is room for the arcs
-    pub arcs-room : 148 + word b 28 / 4 ≤ 1684
+    pub arcs-room : 148 + word b 28 / 4 ≤ netWords
     arcs-room = omega (arith, arcs .arcs-few, shape .length3)
 
     pub fronted : Fronted w2
@@ -136,8 +137,8 @@ module _ (b : List ℕ) (z : first (shapeTests b) ≡ 0) where
     ruled x = ruled-by w2 fronted (none-apply (arcTests (endsIn w2) (placesIn w2) (countsIn w2) (arcsIn w2)) (omega arith) x .0)
 
     -- the words, with the look-up words of their net stored too, are what loading leaves of zeros
-    pub loaded : indexRows (netIn w2 .kindOf) 1172 (parts (countsIn w2) (pairUp (arcsIn w2))) w2 ≡ loadedWords b (replicate 1684 0)
+    pub loaded : indexRows (netIn w2 .kindOf) 1172 (parts (countsIn w2) (pairUp (arcsIn w2))) w2 ≡ loadedWords b (replicate netWords 0)
     unfolding loadedWords netIn bodyWords
     loaded =
         rw (ends-in A B C front (length D / 2) w2 (H2 .front), places-in A B C front (length D / 2) w2 (H2 .front), counts-in A B C front (length D / 2) w2 (H2 .front), arcs-in A B C D front arcs w2 H2, sym w1-is)
-        (ap (indexRows (λ (p : ℕ). getD B p 0) 1172 (parts C (pairUp D))) (sym (sets-all (replicate 1684 0) w2 (length-replicate {A = ℕ} 1684 0 ∙ sym (H2 .front .size)))))
+        (ap (indexRows (λ (p : ℕ). getD B p 0) 1172 (parts C (pairUp D))) (sym (sets-all (replicate netWords 0) w2 (length-replicate {A = ℕ} netWords 0 ∙ sym (H2 .front .size)))))

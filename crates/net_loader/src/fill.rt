@@ -1,5 +1,7 @@
 // A table's bodies, copied from bytes into words.
 
+use net::NET_WORDS;
+use net::NetWords;
 use words::wide;
 ghost use mathlib.Core.Path.{_≡_};
 ghost use mathlib.Core.List.{[], _∷_};
@@ -7,11 +9,12 @@ ghost use Prim.Native.Nat.{_+_, _*_, _/_, _≤_};
 ghost use lib.ListN.{length, take, drop};
 ghost use lib.Seq.{sets};
 ghost use Rattle.words.specs.Words.{word, wordsOf, bodyOf};
+ghost use Rattle.net.specs.Limits.{netWords};
 
 // The n numbers of the bytes from number `from` on become the words from word `base` on.
-fn copy_words(s: &[u8], from: usize, n: usize, w: &mut [u32; 1684], base: usize)
+fn copy_words(s: &[u8], from: usize, n: usize, w: &mut NetWords, base: usize)
     requires { ⌜ from + n ≤ length (wordsOf (now s)) ⌝ }
-    requires { ⌜ base + n ≤ 1684 ⌝ }
+    requires { ⌜ base + n ≤ netWords ⌝ }
     ensures { λ _. ⌜ now (w .exit) ≡ sets (now (w .entry)) base (take n (drop from (wordsOf (now (s .entry))))) ⌝ }
 {
     let mut i = 0;
@@ -22,10 +25,10 @@ fn copy_words(s: &[u8], from: usize, n: usize, w: &mut [u32; 1684], base: usize)
 }
 
 // Body i becomes the words from word `base` on.
-pub fn copy_body(s: &[u8], i: usize, w: &mut [u32; 1684], base: usize)
+pub fn copy_body(s: &[u8], i: usize, w: &mut NetWords, base: usize)
     requires { ⌜ (i ≤ 3) × (32 ≤ length (now s)) ⌝ }
     requires { ⌜ word (now s) (8 * i) + word (now s) (8 * i + 4) ≤ length (now s) ⌝ }
-    requires { ⌜ base + word (now s) (8 * i + 4) / 4 ≤ 1684 ⌝ }
+    requires { ⌜ base + word (now s) (8 * i + 4) / 4 ≤ netWords ⌝ }
     ensures { λ _. ⌜ now (w .exit) ≡ sets (now (w .entry)) base (bodyOf (now (s .entry)) i) ⌝ }
 {
     let at = 8 * i;
@@ -35,7 +38,7 @@ pub fn copy_body(s: &[u8], i: usize, w: &mut [u32; 1684], base: usize)
 }
 
 // The first four words.
-pub fn put_sizes(w: &mut [u32; 1684], kinds: u32, places: u32, acts: u32, arcs: u32)
+pub fn put_sizes(w: &mut NetWords, kinds: u32, places: u32, acts: u32, arcs: u32)
     ensures { λ _. ⌜ now (w .exit) ≡ sets (now (w .entry)) 0 (kinds ∷ places ∷ acts ∷ arcs ∷ []) ⌝ }
 {
     w[0] = kinds;
@@ -45,12 +48,12 @@ pub fn put_sizes(w: &mut [u32; 1684], kinds: u32, places: u32, acts: u32, arcs: 
 }
 
 // All words of t become those of w.
-pub fn copy_all(w: &[u32; 1684], t: &mut [u32; 1684])
-    requires { ⌜ length (now w) ≡ 1684 ⌝ }
+pub fn copy_all(w: &NetWords, t: &mut NetWords)
+    requires { ⌜ length (now w) ≡ netWords ⌝ }
     ensures { λ _. ⌜ now (t .exit) ≡ sets (now (t .entry)) 0 (now (w .entry)) ⌝ }
 {
     let mut i = 0;
-    while i < 1684 {
+    while i < NET_WORDS {
         t[i] = w[i];
         i += 1;
     }

@@ -3,6 +3,7 @@
 use net::COUNTS;
 use net::INDEX;
 use net::INPUTS;
+use net::NetWords;
 use net::OUTPUTS;
 use net::PLACES;
 use words::wide;
@@ -12,11 +13,12 @@ ghost use lib.ListN.{getD, take, drop};
 ghost use Rattle.words.specs.Lists.{pairUp, parts};
 ghost use Rattle.net.specs.Held.{netIn, countsIn, arcsIn, indexRow, indexRows};
 ghost use Rattle.net.specs.Ruled.{Ruled};
+ghost use Rattle.net.specs.Limits.{netWords};
 
 // The n arcs from arc `from` on, each at its kind's word of the eight from word `base` on.
-fn index_row(t: &mut [u32; 1684], from: usize, n: usize, base: usize)
+fn index_row(t: &mut NetWords, from: usize, n: usize, base: usize)
     requires { ⌜ Ruled (now t) ⌝ }
-    requires { ⌜ (from + n ≤ getD (now t) 3 0) × (1172 ≤ base) × (base + 8 ≤ 1684) ⌝ }
+    requires { ⌜ (from + n ≤ getD (now t) 3 0) × (1172 ≤ base) × (base + 8 ≤ netWords) ⌝ }
     ensures { λ _. ⌜ now (t .exit) ≡ indexRow (netIn (now (t .entry)) .kindOf) base (take n (drop from (pairUp (arcsIn (now (t .entry)))))) (now (t .entry)) ⌝ }
 {
     let mut i = 0;
@@ -31,7 +33,7 @@ fn index_row(t: &mut [u32; 1684], from: usize, n: usize, base: usize)
 }
 
 // The arcs of all activities.
-pub fn index_arcs(t: &mut [u32; 1684])
+pub fn index_arcs(t: &mut NetWords)
     requires { ⌜ Ruled (now t) ⌝ }
     ensures { λ _. ⌜ now (t .exit) ≡ indexRows (netIn (now (t .entry)) .kindOf) 1172 (parts (countsIn (now (t .entry))) (pairUp (arcsIn (now (t .entry))))) (now (t .entry)) ⌝ }
 {

@@ -11,6 +11,8 @@ use crate::shape::refuse_shape;
 use net::COUNTS;
 use net::INPUTS;
 use net::LoadAnswer;
+use net::NET_WORDS;
+use net::NetWords;
 use net::PLACES;
 use net::SOURCES;
 ghost use mathlib.Core.Path.{_≡_};
@@ -20,6 +22,7 @@ ghost use Rattle.words.specs.Refusals.{first};
 ghost use Rattle.net.specs.Table.{shapeTests, loadCode};
 ghost use Rattle.net.specs.Held.{frontOver, loadedWords, afterLoad};
 ghost use Rattle.net.specs.Answer.{codeOf};
+ghost use Rattle.net.specs.Limits.{netWords};
 
 mod fill;
 mod index;
@@ -27,7 +30,7 @@ mod refuse;
 mod shape;
 
 // The sizes and the first three bodies of a table to which none of 1 to 3 applies.
-fn copy_front(s: &[u8], w: &mut [u32; 1684])
+fn copy_front(s: &[u8], w: &mut NetWords)
     requires { ⌜ first (shapeTests (now s)) ≡ 0 ⌝ }
     ensures { λ _. ⌜ now (w .exit) ≡ frontOver (now (s .entry)) (now (w .entry)) ⌝ }
 {
@@ -44,9 +47,9 @@ fn copy_front(s: &[u8], w: &mut [u32; 1684])
 }
 
 // A table to which none of 1 to 3 applies: 4 to 9, or 0 where it is loaded into the words, which are all zero.
-fn load_bodies(s: &[u8], t: &mut [u32; 1684]) -> u32
+fn load_bodies(s: &[u8], t: &mut NetWords) -> u32
     requires { ⌜ first (shapeTests (now s)) ≡ 0 ⌝ }
-    requires { ⌜ now t ≡ replicate 1684 0 ⌝ }
+    requires { ⌜ now t ≡ replicate netWords 0 ⌝ }
     ensures { λ r. ⌜ (r ≡ loadCode (now (s .entry))) × (loadCode (now (s .entry)) ≡ 0 → now (t .exit) ≡ loadedWords (now (s .entry)) (now (t .entry))) ⌝ }
 {
     copy_front(s, t);
@@ -63,8 +66,8 @@ fn load_bodies(s: &[u8], t: &mut [u32; 1684]) -> u32
     0
 }
 
-fn load_code(s: &[u8], t: &mut [u32; 1684]) -> u32
-    requires { ⌜ now t ≡ replicate 1684 0 ⌝ }
+fn load_code(s: &[u8], t: &mut NetWords) -> u32
+    requires { ⌜ now t ≡ replicate netWords 0 ⌝ }
     ensures { λ r. ⌜ (r ≡ loadCode (now (s .entry))) × (loadCode (now (s .entry)) ≡ 0 → now (t .exit) ≡ loadedWords (now (s .entry)) (now (t .entry))) ⌝ }
 {
     let r = refuse_shape(s);
@@ -94,31 +97,31 @@ fn answer(n: u32) -> LoadAnswer
 }
 
 // Loads a table file into words that are all zero. Where it is refused, nothing is said of them.
-pub fn load_fresh(s: &[u8], t: &mut [u32; 1684]) -> LoadAnswer
-    requires { ⌜ now t ≡ replicate 1684 0 ⌝ }
+pub fn load_fresh(s: &[u8], t: &mut NetWords) -> LoadAnswer
+    requires { ⌜ now t ≡ replicate netWords 0 ⌝ }
     ensures { λ r. ⌜ (codeOf r ≡ loadCode (now (s .entry))) × (loadCode (now (s .entry)) ≡ 0 → now (t .exit) ≡ loadedWords (now (s .entry)) (now (t .entry))) ⌝ }
 {
     let r = load_code(s, t);
     answer(r)
 }
 
-fn words_of(t: [u32; 1684])
-    ensures { λ _. ⌜ length t ≡ 1684 ⌝ }
+fn words_of(t: NetWords)
+    ensures { λ _. ⌜ length t ≡ netWords ⌝ }
 {}
 
 // Lent words are as many as their type says: this does nothing, and is called for what it ensures.
-fn count_words(t: &[u32; 1684])
-    ensures { λ _. ⌜ length (now (t .entry)) ≡ 1684 ⌝ }
+fn count_words(t: &NetWords)
+    ensures { λ _. ⌜ length (now (t .entry)) ≡ netWords ⌝ }
 {
     words_of(*t);
 }
 
 // Loads a table file into lent words. Where it is refused the words stay as they are.
-pub fn load(s: &[u8], t: &mut [u32; 1684]) -> LoadAnswer
+pub fn load(s: &[u8], t: &mut NetWords) -> LoadAnswer
     ensures { λ r. ⌜ (codeOf r ≡ loadCode (now (s .entry))) × (now (t .exit) ≡ afterLoad (now (s .entry)) (now (t .entry))) ⌝ }
 {
     count_words(t);
-    let mut w = [0u32; 1684];
+    let mut w = [0u32; NET_WORDS];
     let r = load_fresh(s, &mut w);
     if net::number(r) != 0 {
         return r;

@@ -1,5 +1,6 @@
 // The tests 4 to 9 on a table's bodies in words, the first that applies.
 
+use net::NetWords;
 use net_arcs::bad_arcs;
 use net_arcs::bad_counts;
 use net_arcs::sum_counts;
@@ -15,7 +16,7 @@ ghost use Rattle.net.specs.Held.{endsIn, placesIn, countsIn, arcsIn, Sized};
 ghost use Rattle.net.specs.Ruled.{frontTests, Fronted};
 
 // 4, 5 or 6, or 0 where none of them applies.
-pub fn refuse_front(w: &[u32; 1684]) -> u32
+pub fn refuse_front(w: &NetWords) -> u32
     requires { ⌜ Sized (now w) ⌝ }
     ensures { λ r. ⌜ r ≡ first (frontTests (now (w .entry))) ⌝ }
 {
@@ -35,7 +36,7 @@ pub fn refuse_front(w: &[u32; 1684]) -> u32
 }
 
 // 7, 8 or 9, or 0 where none of them applies.
-pub fn refuse_arcs(w: &[u32; 1684]) -> u32
+pub fn refuse_arcs(w: &NetWords) -> u32
     requires { ⌜ Fronted (now w) ⌝ }
     ensures { λ r. ⌜ r ≡ first (arcTests (endsIn (now (w .entry))) (placesIn (now (w .entry))) (countsIn (now (w .entry))) (arcsIn (now (w .entry)))) ⌝ }
 {

@@ -1,5 +1,6 @@
 // The tests 1 to 3 on a table's bytes: length, layout, sizes.
 
+use net::MAX_TABLE;
 ghost use mathlib.Core.Path.{_≡_};
 ghost use Rattle.words.specs.Refusals.{first};
 ghost use Rattle.net.specs.Table.{sizeTests, rowTests, shapeTests};
@@ -55,7 +56,7 @@ pub fn refuse_shape(s: &[u8]) -> u32
     if s.len() < 32 {
         return 1;
     }
-    if 4704 < s.len() {
+    if MAX_TABLE < s.len() {
         return 1;
     }
     if !words::laid_out(s, 4) {

@@ -3,6 +3,7 @@
 
 use net::COUNTS;
 use net::INDEX;
+use net::NetWords;
 use net::PLACES;
 use net::SINKS;
 use net::SOURCES;
@@ -15,21 +16,21 @@ ghost use Rattle.words.specs.Lists.{pick};
 ghost use Rattle.net.specs.Net.{takes, inputOf, outputOf};
 ghost use Rattle.net.specs.Held.{netIn, Held, pack};
 
-pub fn kinds(t: &[u32; 1684]) -> usize
+pub fn kinds(t: &NetWords) -> usize
     requires { ⌜ Held (now t) ⌝ }
     ensures { λ r. ⌜ r ≡ netIn (now (t .entry)) .kinds ⌝ }
 {
     wide(t[0])
 }
 
-pub fn places(t: &[u32; 1684]) -> usize
+pub fn places(t: &NetWords) -> usize
     requires { ⌜ Held (now t) ⌝ }
     ensures { λ r. ⌜ r ≡ netIn (now (t .entry)) .places ⌝ }
 {
     wide(t[1])
 }
 
-pub fn acts(t: &[u32; 1684]) -> usize
+pub fn acts(t: &NetWords) -> usize
     requires { ⌜ Held (now t) ⌝ }
     ensures { λ r. ⌜ r ≡ netIn (now (t .entry)) .acts ⌝ }
 {
@@ -37,7 +38,7 @@ pub fn acts(t: &[u32; 1684]) -> usize
 }
 
 // The source of kind k.
-pub fn source(t: &[u32; 1684], k: usize) -> usize
+pub fn source(t: &NetWords, k: usize) -> usize
     requires { ⌜ Held (now t) ⌝ }
     requires { ⌜ k < netIn (now t) .kinds ⌝ }
     ensures { λ r. ⌜ r ≡ netIn (now (t .entry)) .source k ⌝ }
@@ -46,7 +47,7 @@ pub fn source(t: &[u32; 1684], k: usize) -> usize
 }
 
 // The sink of kind k.
-pub fn sink(t: &[u32; 1684], k: usize) -> usize
+pub fn sink(t: &NetWords, k: usize) -> usize
     requires { ⌜ Held (now t) ⌝ }
     requires { ⌜ k < netIn (now t) .kinds ⌝ }
     ensures { λ r. ⌜ r ≡ netIn (now (t .entry)) .sink k ⌝ }
@@ -55,7 +56,7 @@ pub fn sink(t: &[u32; 1684], k: usize) -> usize
 }
 
 // The kind of place p.
-pub fn kind_of(t: &[u32; 1684], p: usize) -> usize
+pub fn kind_of(t: &NetWords, p: usize) -> usize
     requires { ⌜ Held (now t) ⌝ }
     requires { ⌜ p < netIn (now t) .places ⌝ }
     ensures { λ r. ⌜ r ≡ netIn (now (t .entry)) .kindOf p ⌝ }
@@ -64,7 +65,7 @@ pub fn kind_of(t: &[u32; 1684], p: usize) -> usize
 }
 
 // How many arcs activity a has.
-pub fn arcs(t: &[u32; 1684], a: usize) -> usize
+pub fn arcs(t: &NetWords, a: usize) -> usize
     requires { ⌜ Held (now t) ⌝ }
     requires { ⌜ a < netIn (now t) .acts ⌝ }
     ensures { λ r. ⌜ r ≡ length (netIn (now (t .entry)) .arcs a) ⌝ }
@@ -74,7 +75,7 @@ pub fn arcs(t: &[u32; 1684], a: usize) -> usize
 
 // The look-up word of activity a and kind k: an arc in one number, or 0. The row is cut out first, so that its start is worked out
 // once for all objects of an event.
-fn arc_word(t: &[u32; 1684], a: usize, k: usize) -> usize
+fn arc_word(t: &NetWords, a: usize, k: usize) -> usize
     requires { ⌜ Held (now t) ⌝ }
     requires { ⌜ (a < netIn (now t) .acts) × (k < netIn (now t) .kinds) ⌝ }
     ensures { λ r. ⌜ r ≡ pick (takes (netIn (now (t .entry))) a k) (pack (inputOf (netIn (now (t .entry))) a k, outputOf (netIn (now (t .entry))) a k)) 0 ⌝ }
@@ -86,7 +87,7 @@ fn arc_word(t: &[u32; 1684], a: usize, k: usize) -> usize
 }
 
 // Activity a takes an object of kind k.
-pub fn takes_kind(t: &[u32; 1684], a: usize, k: usize) -> bool
+pub fn takes_kind(t: &NetWords, a: usize, k: usize) -> bool
     requires { ⌜ Held (now t) ⌝ }
     requires { ⌜ (a < netIn (now t) .acts) × (k < netIn (now t) .kinds) ⌝ }
     ensures { λ r. ⌜ r ≡ takes (netIn (now (t .entry))) a k ⌝ }
@@ -95,7 +96,7 @@ pub fn takes_kind(t: &[u32; 1684], a: usize, k: usize) -> bool
 }
 
 // The place from which activity a takes an object of kind k.
-pub fn input(t: &[u32; 1684], a: usize, k: usize) -> usize
+pub fn input(t: &NetWords, a: usize, k: usize) -> usize
     requires { ⌜ Held (now t) ⌝ }
     requires { ⌜ (a < netIn (now t) .acts) × (k < netIn (now t) .kinds) × (takes (netIn (now t)) a k ≡ true) ⌝ }
     ensures { λ r. ⌜ r ≡ inputOf (netIn (now (t .entry))) a k ⌝ }
@@ -104,7 +105,7 @@ pub fn input(t: &[u32; 1684], a: usize, k: usize) -> usize
 }
 
 // The place on which activity a leaves an object of kind k.
-pub fn output(t: &[u32; 1684], a: usize, k: usize) -> usize
+pub fn output(t: &NetWords, a: usize, k: usize) -> usize
     requires { ⌜ Held (now t) ⌝ }
     requires { ⌜ (a < netIn (now t) .acts) × (k < netIn (now t) .kinds) × (takes (netIn (now t)) a k ≡ true) ⌝ }
     ensures { λ r. ⌜ r ≡ outputOf (netIn (now (t .entry))) a k ⌝ }

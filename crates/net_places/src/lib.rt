@@ -1,6 +1,7 @@
 // The tests 4 and 5 on a table's bodies in words: the kinds of its places, the source and the sink of each kind.
 // Above `net`; `net_loader` asks them.
 
+use net::NetWords;
 use net::PLACES;
 use net::SINKS;
 use net::SOURCES;
@@ -13,7 +14,7 @@ ghost use Rattle.net.specs.Table.{badEnds};
 ghost use Rattle.net.specs.Held.{netIn, placesIn, Sized};
 
 // 4: a place of unknown kind.
-pub fn bad_place(w: &[u32; 1684]) -> bool
+pub fn bad_place(w: &NetWords) -> bool
     requires { ⌜ Sized (now w) ⌝ }
     ensures { λ r. ⌜ r ≡ any (λ (k : ℕ). leb (netIn (now (w .entry)) .kinds) k) (placesIn (now (w .entry))) ⌝ }
 {
@@ -30,7 +31,7 @@ pub fn bad_place(w: &[u32; 1684]) -> bool
 }
 
 // The source and sink of kind k, places s and e, break test 5.
-fn bad_pair(w: &[u32; 1684], k: usize, s: usize, e: usize) -> bool
+fn bad_pair(w: &NetWords, k: usize, s: usize, e: usize) -> bool
     requires { ⌜ Sized (now w) ⌝ }
     requires { ⌜ (k < netIn (now w) .kinds) × (s ≡ netIn (now w) .source k) × (e ≡ netIn (now w) .sink k) ⌝ }
     ensures { λ r. ⌜ r ≡ badEnds (netIn (now (w .entry))) k ⌝ }
@@ -52,7 +53,7 @@ fn bad_pair(w: &[u32; 1684], k: usize, s: usize, e: usize) -> bool
 }
 
 // 5: a kind whose source or sink is unknown, of another kind, or the same place.
-pub fn bad_ends(w: &[u32; 1684]) -> bool
+pub fn bad_ends(w: &NetWords) -> bool
     requires { ⌜ Sized (now w) ⌝ }
     ensures { λ r. ⌜ r ≡ anyTo (netIn (now (w .entry)) .kinds) (badEnds (netIn (now (w .entry)))) ⌝ }
 {

@@ -2,6 +2,7 @@
 
 use net::COUNTS;
 use net::INPUTS;
+use net::NetWords;
 use net::PLACES;
 use words::wide;
 ghost use mathlib.Core.Path.{_≡_};
@@ -14,7 +15,7 @@ ghost use Rattle.net.specs.Held.{netIn, countsIn, arcsIn};
 ghost use Rattle.net.specs.Ruled.{Ruled};
 
 // Two of the n arcs from arc `from` on are of one kind.
-fn two_in_row(w: &[u32; 1684], from: usize, n: usize) -> bool
+fn two_in_row(w: &NetWords, from: usize, n: usize) -> bool
     requires { ⌜ Ruled (now w) ⌝ }
     requires { ⌜ from + n ≤ getD (now w) 3 0 ⌝ }
     ensures { λ r. ⌜ r ≡ twice (kindsOf (netIn (now (w .entry))) (take n (drop from (pairUp (arcsIn (now (w .entry))))))) ⌝ }
@@ -34,7 +35,7 @@ fn two_in_row(w: &[u32; 1684], from: usize, n: usize) -> bool
 }
 
 // 8: two arcs of one activity are of one kind.
-pub fn two_of_kind(w: &[u32; 1684]) -> bool
+pub fn two_of_kind(w: &NetWords) -> bool
     requires { ⌜ Ruled (now w) ⌝ }
     ensures { λ r. ⌜ r ≡ any (λ (r : List Arc). twice (kindsOf (netIn (now (w .entry))) r)) (parts (countsIn (now (w .entry))) (pairUp (arcsIn (now (w .entry))))) ⌝ }
 {

@@ -2,6 +2,7 @@
 // All kinds are marked at once, which is the same, since an arc joins places of one kind.
 
 use net::INPUTS;
+use net::NetWords;
 use net::OUTPUTS;
 use net::SINKS;
 use net::SOURCES;
@@ -34,7 +35,7 @@ fn mark_arc(m: &mut [u32; 64], p: usize, q: usize, more: bool) -> bool
 }
 
 // One pass over the arcs. False where it marked nothing new.
-fn mark_pass(w: &[u32; 1684], m: &mut [u32; 64]) -> bool
+fn mark_pass(w: &NetWords, m: &mut [u32; 64]) -> bool
     requires { ⌜ Ruled (now w) ⌝ }
     ensures { λ r. ⌜ now (m .exit) ≡ pass (pairUp (arcsIn (now (w .entry)))) (now (m .entry)) ⌝ }
     ensures { λ r. ⌜ (r ≡ false → now (m .exit) ≡ now (m .entry)) ⌝ }
@@ -52,7 +53,7 @@ fn mark_pass(w: &[u32; 1684], m: &mut [u32; 64]) -> bool
 }
 
 // Passes until one marks nothing new.
-fn mark_all(w: &[u32; 1684], m: &mut [u32; 64])
+fn mark_all(w: &NetWords, m: &mut [u32; 64])
     requires { ⌜ Ruled (now w) ⌝ }
     ensures { λ _. ⌜ now (m .exit) ≡ passes 64 (pairUp (arcsIn (now (w .entry)))) (now (m .entry)) ⌝ }
 {
@@ -66,7 +67,7 @@ fn mark_all(w: &[u32; 1684], m: &mut [u32; 64])
 }
 
 // The source of each kind is marked.
-fn mark_sources(w: &[u32; 1684], m: &mut [u32; 64])
+fn mark_sources(w: &NetWords, m: &mut [u32; 64])
     requires { ⌜ Ruled (now w) ⌝ }
     ensures { λ _. ⌜ now (m .exit) ≡ sourceMarks (netIn (now (w .entry))) (now (m .entry)) ⌝ }
 {
@@ -79,7 +80,7 @@ fn mark_sources(w: &[u32; 1684], m: &mut [u32; 64])
 }
 
 // 9: a sink is not reached from its source.
-pub fn unreached(w: &[u32; 1684]) -> bool
+pub fn unreached(w: &NetWords) -> bool
     requires { ⌜ Ruled (now w) ⌝ }
     ensures { λ r. ⌜ r ≡ anyTo (netIn (now (w .entry)) .kinds) (λ (k : ℕ). not (marked (netIn (now (w .entry)) .places) (pairUp (arcsIn (now (w .entry)))) (netIn (now (w .entry)) .source k) (netIn (now (w .entry)) .sink k))) ⌝ }
 {

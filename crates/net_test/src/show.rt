@@ -3,11 +3,14 @@
 use crate::read::after;
 use crate::read::put_part;
 use net::LoadAnswer;
+use net::NET_WORDS;
+use net::NetWords;
 use words::wide;
 ghost use mathlib.Core.Path.{_≡_};
 ghost use Prim.Native.Nat.{_<_};
 ghost use lib.ListN.{length};
 ghost use Rattle.net.specs.Held.{Held, netIn};
+ghost use Rattle.net.specs.Limits.{netWords};
 
 // The phrases that `phrase` writes, by their number. The names of the answers follow.
 const KIND: usize = 0;
@@ -93,25 +96,25 @@ fn put_answer(a: LoadAnswer) {
 
 // What word i holds before a table is loaded.
 fn mark(i: usize) -> u32
-    requires { ⌜ i < 1684 ⌝ }
+    requires { ⌜ i < netWords ⌝ }
 {
     3000000000 + 7 * (i as u32)
 }
 
-fn fill(t: &mut [u32; 1684])
-    requires { ⌜ length (now t) ≡ 1684 ⌝ }
-    ensures { λ _. ⌜ length (now (t .exit)) ≡ 1684 ⌝ }
+fn fill(t: &mut NetWords)
+    requires { ⌜ length (now t) ≡ netWords ⌝ }
+    ensures { λ _. ⌜ length (now (t .exit)) ≡ netWords ⌝ }
 {
     let mut i = 0;
-    while i < 1684 {
+    while i < NET_WORDS {
         t[i] = mark(i);
         i += 1;
     }
 }
 
-fn filled(t: &[u32; 1684]) -> bool {
+fn filled(t: &NetWords) -> bool {
     let mut i = 0;
-    while i < 1684 {
+    while i < NET_WORDS {
         if t[i] != mark(i) {
             return false;
         }
@@ -120,7 +123,7 @@ fn filled(t: &[u32; 1684]) -> bool {
     true
 }
 
-fn put_words(t: &[u32; 1684]) {
+fn put_words(t: &NetWords) {
     if filled(t) {
         phrase(UNCHANGED);
     } else {
@@ -128,7 +131,7 @@ fn put_words(t: &[u32; 1684]) {
     }
 }
 
-fn put_ends(t: &[u32; 1684], k: usize)
+fn put_ends(t: &NetWords, k: usize)
     requires { ⌜ Held (now t) ⌝ }
 {
     if k < net_lookup::kinds(t) {
@@ -138,7 +141,7 @@ fn put_ends(t: &[u32; 1684], k: usize)
     }
 }
 
-fn put_place(t: &[u32; 1684], p: usize)
+fn put_place(t: &NetWords, p: usize)
     requires { ⌜ Held (now t) ⌝ }
 {
     if p < net_lookup::places(t) {
@@ -148,7 +151,7 @@ fn put_place(t: &[u32; 1684], p: usize)
 }
 
 // The arc of kind k, where activity a has one.
-fn put_arc(t: &[u32; 1684], a: usize, k: usize)
+fn put_arc(t: &NetWords, a: usize, k: usize)
     requires { ⌜ Held (now t) ⌝ }
     requires { ⌜ a < netIn (now t) .acts ⌝ }
 {
@@ -161,7 +164,7 @@ fn put_arc(t: &[u32; 1684], a: usize, k: usize)
     }
 }
 
-fn put_act(t: &[u32; 1684], a: usize)
+fn put_act(t: &NetWords, a: usize)
     requires { ⌜ Held (now t) ⌝ }
 {
     if a < net_lookup::acts(t) {
@@ -176,7 +179,7 @@ fn put_act(t: &[u32; 1684], a: usize)
 }
 
 // Kind i, place i or activity i, where the net has it.
-fn put_one(t: &[u32; 1684], what: u8, i: usize)
+fn put_one(t: &NetWords, what: u8, i: usize)
     requires { ⌜ Held (now t) ⌝ }
 {
     match what {
@@ -195,7 +198,7 @@ fn begin(n: usize, whole: bool) -> usize {
 }
 
 // All n kinds, places or activities, or only the last one.
-fn put_all(t: &[u32; 1684], what: u8, n: usize, whole: bool)
+fn put_all(t: &NetWords, what: u8, n: usize, whole: bool)
     requires { ⌜ Held (now t) ⌝ }
 {
     let mut i = begin(n, whole);
@@ -205,7 +208,7 @@ fn put_all(t: &[u32; 1684], what: u8, n: usize, whole: bool)
     }
 }
 
-fn put_sizes(t: &[u32; 1684])
+fn put_sizes(t: &NetWords)
     requires { ⌜ Held (now t) ⌝ }
 {
     say(KINDS, net_lookup::kinds(t));
@@ -215,7 +218,7 @@ fn put_sizes(t: &[u32; 1684])
 }
 
 // The net that the words hold: its sizes, and each kind, place and activity, or only the last of each.
-fn put_net(t: &[u32; 1684], whole: bool)
+fn put_net(t: &NetWords, whole: bool)
     requires { ⌜ Held (now t) ⌝ }
 {
     put_sizes(t);
@@ -226,7 +229,7 @@ fn put_net(t: &[u32; 1684], whole: bool)
 
 // Loads the table s, and writes the answer and what the words hold then.
 pub fn load(s: &[u8], whole: bool) {
-    let mut t = [0u32; 1684];
+    let mut t = [0u32; NET_WORDS];
     fill(&mut t);
     let a = net_loader::load(s, &mut t);
     put_answer(a);

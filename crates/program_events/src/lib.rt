@@ -2,6 +2,7 @@
 // What is given back is what is to be printed: `conform` prints it.
 // Above `trace_reader`, `replay_event`, `replay_close`, `program_output` and `program_input`; `conform` uses it once a trail is started.
 
+use net::NetWords;
 use program_input::refill;
 use program_output::Ending;
 use trace_reader::Cursor;
@@ -44,7 +45,7 @@ fn stopped(spot: Spot, code: u32) -> Outcome
 // Reads one event at the spot and carries it out.
 fn step(
     rec: &mut [u8],
-    t: &[u32; 1684],
+    t: &NetWords,
     register: &[u8],
     body: usize,
     window: &[u8],
@@ -87,7 +88,7 @@ fn step(
 // Reads and carries out events until it is over or fewer than `least` bytes of the window are left.
 fn steps(
     rec: &mut [u8],
-    t: &[u32; 1684],
+    t: &NetWords,
     register: &[u8],
     body: usize,
     window: &[u8],
@@ -120,7 +121,7 @@ fn steps(
 // there; else as long as a whole event is sure to be in the window.
 fn turn(
     rec: &mut [u8],
-    t: &[u32; 1684],
+    t: &NetWords,
     register: &[u8],
     body: usize,
     buf: &[u8],
@@ -144,7 +145,7 @@ fn turn(
 // were read first; the others are read as they are needed.
 fn all_events(
     rec: &mut [u8],
-    t: &[u32; 1684],
+    t: &NetWords,
     register: &[u8],
     body: usize,
     buf: &mut [u8],
@@ -180,7 +181,7 @@ fn all_events(
 // the buffer are those that were read first from the events body on.
 pub fn follow(
     rec: &mut [u8],
-    t: &[u32; 1684],
+    t: &NetWords,
     register: &[u8],
     body: usize,
     buf: &mut [u8],

@@ -2,6 +2,7 @@
 // Above `report_parts` and `lines`. `program_events` and `conform` say what is to be printed, and `conform` has it printed.
 
 use lines::size;
+use net::NetWords;
 use report_parts::line_count;
 use report_parts::put_lines;
 ghost use mathlib.Core.Path.{_≡_};
@@ -40,7 +41,7 @@ fn print_refusal(ending: Ending) -> bool {
 
 // Prints the whole report, in parts of as many lines as fit the buffer: that they are the report is `parts-are` of `report_parts`.
 // Gives whether all of it was written; it stops where a part was not.
-fn print_report(rec: &[u8], t: &[u32; 1684]) -> bool
+fn print_report(rec: &[u8], t: &NetWords) -> bool
     requires { ⌜ Ready (now t) (now rec) ⌝ }
 {
     let mut out = io::buffer();
@@ -58,7 +59,7 @@ fn print_report(rec: &[u8], t: &[u32; 1684]) -> bool
 }
 
 // Prints what is to be printed; `rec` are the bytes lent for the trail. Gives whether all of it was written.
-pub fn print(ending: Ending, rec: &[u8], t: &[u32; 1684]) -> bool
+pub fn print(ending: Ending, rec: &[u8], t: &NetWords) -> bool
     requires { ⌜ Printable (now t) (now rec) ending ⌝ }
 {
     match ending {

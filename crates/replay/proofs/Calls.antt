@@ -10,6 +10,7 @@ use Rattle.words.specs.Lists.{pick}
 use Rattle.net.specs.Net.{Net, Loaded}
 use Rattle.net.specs.Table.{netOf}
 use Rattle.net.specs.Held.{netIn}
+use Rattle.net.proofs.HeldLaws.{held-loaded}
 use Rattle.replay.specs.Plain.{Ask}
 use Rattle.replay.specs.State.{State, answerS, acceptS, askS}
 use Rattle.replay.specs.Sound.{Sound}
@@ -18,7 +19,6 @@ use Rattle.replay.specs.Calls.{netAt, stateAt, askCode, askBytes}
 use Rattle.replay.specs.Ready.{Ready}
 use Rattle.replay.proofs.Keep.{sound-ask}
 use Rattle.replay.proofs.Encode.{table-encode, state-encode, intact-encode}
-use Rattle.replay.proofs.RecordLaws.{ready-loaded}
 
 -- an event or a close on an intact trail, accepted or refused, leaves the record of the same table and of the state after it
 pub ask-encode : (b : List ℕ) → Intact (netAt b) b → (q : Ask) → askBytes b q ≡ encode (tableIn b) (askS (netAt b) (stateAt b) q)
@@ -44,7 +44,7 @@ module _ (w b : List ℕ) (R : Ready w b) (q : Ask) where
   bytes-refused n = rw (ne-eqb (askCode b q) 0 n)
 
   loaded : Loaded (netAt b)
-  loaded = subst Loaded (R .net) (ready-loaded w b R)
+  loaded = subst Loaded (R .net) (held-loaded w (R .held))
 
   -- the state after the call, and its record
   abbrev next : State

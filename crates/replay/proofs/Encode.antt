@@ -17,6 +17,8 @@ use Rattle.replay.specs.Sound.{Sound}
 use Rattle.replay.specs.Record.{counts, countsSize, kindsAt, placesAt, countsAt, pairsAt, recordSize, contents, encode, recordWords, wordsFrom, tableIn, stateIn, Intact}
 use Rattle.replay.proofs.Accepted.{closers-length}
 use Rattle.replay.proofs.Interleave.{length-interleave, All-interleave, evens-interleave, odds-interleave}
+use Rattle.net.specs.Limits.{maxTable}
+use Rattle.replay.specs.Limits.{maxRecord}
 
 -- a number of 32 bits
 abbrev pub Fits : ℕ → Type 0
@@ -129,7 +131,7 @@ square n h = omega (arith, mul-le-mul h h)
 four : (n : ℕ) → 4 * n / 4 ≡ n
 four n = omega arith
 
-module _ (N : Net) (L : Loaded N) (table : List ℕ) (d : State) (S : Sound N d) (T : length table ≤ 4704) where
+module _ (N : Net) (L : Loaded N) (table : List ℕ) (d : State) (S : Sound N d) (T : length table ≤ maxTable) where
   fit-contents : All Fits (contents table d)
   fit-contents = let k = S .few in let p = S .on .size in let c = counts-size N d S in let j = S .pairs-size in let a = L .acts-le in let q = square (N .places) (L .places-le) in omega arith
 
@@ -187,7 +189,7 @@ module _ (N : Net) (L : Loaded N) (table : List ℕ) (d : State) (S : Sound N d)
       s5 : Seg (bytesOf h ++ r0) (pairsAt table d) r4
       s5 = seg-next (counts d) r4 s4
 
-  pub encode-le : length (encode table d) ≤ 29844
+  pub encode-le : length (encode table d) ≤ maxRecord
   encode-le = omega (arith, laid .size, S .few, S .on .size, counts-size N d S, S .pairs-size, L .acts-le, square (N .places) (L .places-le))
 
   -- what was written is read again
@@ -241,7 +243,7 @@ words-append (suc n) (a ∷ (b ∷ (c ∷ (d ∷ s)))) r e = ap (λ (l : List �
 
 module _ (table : List ℕ) (d : State) (n : ℕ) (whole : length table ≡ 4 * n) where
   -- the numbers of a checkpoint's bytes
-  pub words-encode : (N : Net) → Loaded N → Sound N d → length table ≤ 4704 → wordsOf (encode table d) ≡ recordWords table d
+  pub words-encode : (N : Net) → Loaded N → Sound N d → length table ≤ maxTable → wordsOf (encode table d) ≡ recordWords table d
   unfolding encode
   words-encode N L S T =
       words-of-bytes-then (contents table d) _ (fit-contents N L table d S T)

@@ -5,11 +5,8 @@ pub mod Encode
 pub mod Entry
 pub mod Interleave
 pub mod Keep
-mod ObjectLaws
-mod PairLaws
 pub mod Order
 pub mod Permit
-pub mod RecordLaws
 pub mod Records
 pub mod Registers
 pub mod Rows

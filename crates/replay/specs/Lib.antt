@@ -1,7 +1,7 @@
 pub mod Calls
 pub mod Claims
 pub mod Counts
-pub mod Offsets
+pub mod Limits
 pub mod Permitted
 pub mod Plain
 pub mod Ready

@@ -7,6 +7,7 @@ use Rattle.words.specs.Words.{word, wordsOf, bytesOf}
 use Rattle.net.specs.Net.{Net}
 use Rattle.replay.specs.State.{State, stateFrom}
 use Rattle.replay.specs.Sound.{Sound}
+use Rattle.net.specs.Limits.{maxTable}
 
 -- two lists by turns
 abbrev pub interleave : List ℕ → List ℕ → List ℕ
@@ -68,4 +69,4 @@ stateIn N b = stateFrom (wordsFrom b (word b 8) (word b 12 / 4)) (wordsFrom b (w
 pub record Intact (N : Net) (b : List ℕ) : Type 0 where
   pub bytes : b ≡ encode (tableIn b) (stateIn N b)
   pub sound : Sound N (stateIn N b)
-  pub table-size : length (tableIn b) ≤ 4704
+  pub table-size : length (tableIn b) ≤ maxTable

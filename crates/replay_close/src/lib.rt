@@ -1,10 +1,11 @@
 // The close of a trail in lent bytes: refused with 31, or carried out in place.
 // Above `replay_moves`, which moves an object, and `replay`, whose definitions its contracts cite. The program and the C calls close by it.
 
-use replay::layout::Layout;
-use replay::layout::read_layout;
+use net::NetWords;
 use replay_moves::add;
 use replay_moves::move_object;
+use replay_objects::layout::Layout;
+use replay_objects::layout::read_layout;
 ghost use mathlib.Core.Path.{_≡_};
 ghost use Rattle.words.specs.Words.{wordsOf};
 ghost use Rattle.net.specs.Held.{netIn};
@@ -12,7 +13,7 @@ ghost use Rattle.replay.specs.Plain.{endings};
 ghost use Rattle.replay.specs.State.{closeJumps, afterLegs};
 ghost use Rattle.replay.specs.Record.{tableIn, recordWords};
 ghost use Rattle.replay.specs.Calls.{stateAt, askCode, askBytes};
-ghost use Rattle.replay.specs.Offsets.{layoutOf};
+ghost use Rattle.replay_objects.specs.Offsets.{layoutOf};
 ghost use Rattle.replay.specs.Ready.{Ready};
 ghost use Rattle.replay_close.specs.Answers.{closeCode, askClose};
 
@@ -24,7 +25,7 @@ pub enum CloseAnswer {
 }
 
 // Every object jumps to its sink where it is not there, and is taken from it; the jumps are added once, behind the last object.
-fn sink_objects(rec: &mut [u8], t: &[u32; 1684], lay: Layout)
+fn sink_objects(rec: &mut [u8], t: &NetWords, lay: Layout)
     requires { ⌜ Ready (now t) (now rec) ⌝ }
     requires { ⌜ lay ≡ layoutOf (netIn (now t)) (now rec) ⌝ }
     ensures { λ _. ⌜ wordsOf (now (rec .exit)) ≡ recordWords (tableIn (now (rec .entry))) (afterLegs (netIn (now (t .entry))) closeJumps (stateAt (now (rec .entry))) (endings (netIn (now (t .entry))) (stateAt (now (rec .entry)) .kinds))) ⌝ }
@@ -41,7 +42,7 @@ fn sink_objects(rec: &mut [u8], t: &[u32; 1684], lay: Layout)
 }
 
 // Closes a trail: it is closed already and nothing changes, or it is closed in the record's bytes.
-pub fn close(rec: &mut [u8], t: &[u32; 1684]) -> CloseAnswer
+pub fn close(rec: &mut [u8], t: &NetWords) -> CloseAnswer
     requires { ⌜ Ready (now t) (now rec) ⌝ }
     ensures { λ r. ⌜ (closeCode r ≡ askCode (now (rec .entry)) askClose) × (now (rec .exit) ≡ askBytes (now (rec .entry)) askClose) ⌝ }
 {

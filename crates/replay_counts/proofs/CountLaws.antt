@@ -16,15 +16,16 @@ use Rattle.words.proofs.Lists.{clash, All-at}
 use Rattle.words.proofs.Sums.{sumTo-more}
 use Rattle.net.specs.Net.{Net, Arc, Loaded, takes, arcOf, inputOf}
 use Rattle.net.specs.Held.{netIn}
-use Rattle.replay.specs.declared.layout.Layout.{Layout}
+use Rattle.replay_objects.specs.declared.layout.Layout.{Layout}
 use Rattle.replay.specs.State.{State, inputs, storedPair, storedMoved}
 use Rattle.replay.specs.Record.{recordWords, tableIn}
 use Rattle.replay.specs.Calls.{stateAt}
-use Rattle.replay.specs.Offsets.{layoutOf}
+use Rattle.replay_objects.specs.Offsets.{layoutOf}
 use Rattle.replay.specs.Ready.{Ready}
 use Rattle.replay.proofs.Accepted.{closers-length}
 use Rattle.replay.proofs.Encode.{fired-le, jumps-le, pairs-le}
-use Rattle.replay.proofs.RecordLaws.{Placed, record-size, record-few, get-kind, get-closed, get-events, get-closing, get-fired, get-jumps, get-pair, ready-loaded, ready-sound, ready-words, ready-placed}
+use Rattle.replay_objects.proofs.RecordLaws.{Placed, record-size, record-few, get-kind, get-closed, get-events, get-closing, get-fired, get-jumps, get-pair, ready-loaded, ready-sound, ready-words, ready-placed}
+use Rattle.replay.specs.Limits.{maxWords}
 
 -- sums
 sum-under : (n m : ℕ) (f : ℕ → ℕ) → ((i : ℕ) → i < n → f i ≤ m) → (i : ℕ) → i ≤ n → sumTo i f ≤ i * m
@@ -89,7 +90,7 @@ inputs-le N L q a h = rw (inputs-is N L q a h) (go (takes N a (N .kindOf q)) (eq
 -- number i of the bytes is there, and is x
 pub record At (b : List ℕ) (i x : ℕ) : Type 0 where
   pub there : i < length (wordsOf b)
-  pub small : i ≤ 7461
+  pub small : i ≤ maxWords
   pub is : getD (wordsOf b) i 0 ≡ x
 
 module _ (w b : List ℕ) (R : Ready w b) where

@@ -1,7 +1,8 @@
 // Reading every count of document 01 from a trail's bytes: what is stored is looked up, and the rest is summed from it.
 // Above `net_lookup` and `replay`. `report` and `client_counts` write what it reads.
 
-use replay::layout::read_layout;
+use net::NetWords;
+use replay_objects::layout::read_layout;
 use words::wide;
 ghost use mathlib.Core.Path.{_≡_};
 ghost use Prim.Native.Nat.{_+_, _*_, _<_, _≤_};
@@ -58,7 +59,7 @@ pub struct TrailCounts {
 }
 
 // 1 once the trail is closed, else 0.
-fn closed(rec: &[u8], t: &[u32; 1684]) -> u32
+fn closed(rec: &[u8], t: &NetWords) -> u32
     requires { ⌜ Ready (now t) (now rec) ⌝ }
     ensures { λ r. ⌜ (r ≡ stateAt (now (rec .entry)) .closed) × (r ≤ 1) ⌝ }
 {
@@ -67,7 +68,7 @@ fn closed(rec: &[u8], t: &[u32; 1684]) -> u32
 }
 
 // The accepted events.
-fn events(rec: &[u8], t: &[u32; 1684]) -> u32
+fn events(rec: &[u8], t: &NetWords) -> u32
     requires { ⌜ Ready (now t) (now rec) ⌝ }
     ensures { λ r. ⌜ r ≡ stateAt (now (rec .entry)) .events ⌝ }
 {
@@ -76,7 +77,7 @@ fn events(rec: &[u8], t: &[u32; 1684]) -> u32
 }
 
 // The closing jumps.
-fn closing(rec: &[u8], t: &[u32; 1684]) -> u32
+fn closing(rec: &[u8], t: &NetWords) -> u32
     requires { ⌜ Ready (now t) (now rec) ⌝ }
     ensures { λ r. ⌜ (r ≡ stateAt (now (rec .entry)) .closing) × (r ≤ 1024) ⌝ }
 {
@@ -85,7 +86,7 @@ fn closing(rec: &[u8], t: &[u32; 1684]) -> u32
 }
 
 // How many objects there are.
-fn objects(rec: &[u8], t: &[u32; 1684]) -> usize
+fn objects(rec: &[u8], t: &NetWords) -> usize
     requires { ⌜ Ready (now t) (now rec) ⌝ }
     ensures { λ r. ⌜ (r ≡ length (stateAt (now (rec .entry)) .kinds)) × (r ≤ 1024) ⌝ }
 {
@@ -94,7 +95,7 @@ fn objects(rec: &[u8], t: &[u32; 1684]) -> usize
 }
 
 // The kind of object o.
-fn kind(rec: &[u8], t: &[u32; 1684], o: usize) -> usize
+fn kind(rec: &[u8], t: &NetWords, o: usize) -> usize
     requires { ⌜ Ready (now t) (now rec) ⌝ }
     requires { ⌜ o < length (stateAt (now rec) .kinds) ⌝ }
     ensures { λ r. ⌜ (r ≡ getD (stateAt (now (rec .entry)) .kinds) o 0) × (r < netIn (now (t .entry)) .kinds) ⌝ }
@@ -104,7 +105,7 @@ fn kind(rec: &[u8], t: &[u32; 1684], o: usize) -> usize
 }
 
 // FIRED of activity a.
-fn fired(rec: &[u8], t: &[u32; 1684], a: usize) -> u32
+fn fired(rec: &[u8], t: &NetWords, a: usize) -> u32
     requires { ⌜ Ready (now t) (now rec) ⌝ }
     requires { ⌜ a < netIn (now t) .acts ⌝ }
     ensures { λ r. ⌜ (r ≡ getD (stateAt (now (rec .entry)) .fired) a 0) × (r ≤ 1000000) ⌝ }
@@ -114,7 +115,7 @@ fn fired(rec: &[u8], t: &[u32; 1684], a: usize) -> u32
 }
 
 // JUMPS of activity a.
-fn jumps_of(rec: &[u8], t: &[u32; 1684], a: usize) -> u32
+fn jumps_of(rec: &[u8], t: &NetWords, a: usize) -> u32
     requires { ⌜ Ready (now t) (now rec) ⌝ }
     requires { ⌜ a < netIn (now t) .acts ⌝ }
     ensures { λ r. ⌜ (r ≡ getD (stateAt (now (rec .entry)) .jumps) a 0) × (r ≤ 8000000) ⌝ }
@@ -124,7 +125,7 @@ fn jumps_of(rec: &[u8], t: &[u32; 1684], a: usize) -> u32
 }
 
 // MOVED of activity a: FIRED times its arcs.
-fn moved(rec: &[u8], t: &[u32; 1684], a: usize) -> u32
+fn moved(rec: &[u8], t: &NetWords, a: usize) -> u32
     requires { ⌜ Ready (now t) (now rec) ⌝ }
     requires { ⌜ a < netIn (now t) .acts ⌝ }
     ensures { λ r. ⌜ (r ≡ storedMoved (netIn (now (t .entry))) (stateAt (now (rec .entry))) a) × (r ≤ 8000000) ⌝ }
@@ -134,7 +135,7 @@ fn moved(rec: &[u8], t: &[u32; 1684], a: usize) -> u32
 }
 
 // The jump count from place x to place y.
-fn pair(rec: &[u8], t: &[u32; 1684], x: usize, y: usize) -> u32
+fn pair(rec: &[u8], t: &NetWords, x: usize, y: usize) -> u32
     requires { ⌜ Ready (now t) (now rec) ⌝ }
     requires { ⌜ (x < netIn (now t) .places) × (y < netIn (now t) .places) ⌝ }
     ensures { λ r. ⌜ (r ≡ storedPair (netIn (now (t .entry))) (stateAt (now (rec .entry))) x y) × (r ≤ 8001024) ⌝ }
@@ -144,7 +145,7 @@ fn pair(rec: &[u8], t: &[u32; 1684], x: usize, y: usize) -> u32
 }
 
 // IN of place q: the jumps from every place to it.
-fn jumps_in(rec: &[u8], t: &[u32; 1684], q: usize) -> u32
+fn jumps_in(rec: &[u8], t: &NetWords, q: usize) -> u32
     requires { ⌜ Ready (now t) (now rec) ⌝ }
     requires { ⌜ q < netIn (now t) .places ⌝ }
     ensures { λ r. ⌜ r ≡ storedJumpsIn (netIn (now (t .entry))) (stateAt (now (rec .entry))) q ⌝ }
@@ -160,7 +161,7 @@ fn jumps_in(rec: &[u8], t: &[u32; 1684], q: usize) -> u32
 }
 
 // OUT of place q: the jumps from it to every place.
-fn jumps_out(rec: &[u8], t: &[u32; 1684], q: usize) -> u32
+fn jumps_out(rec: &[u8], t: &NetWords, q: usize) -> u32
     requires { ⌜ Ready (now t) (now rec) ⌝ }
     requires { ⌜ q < netIn (now t) .places ⌝ }
     ensures { λ r. ⌜ r ≡ storedJumpsOut (netIn (now (t .entry))) (stateAt (now (rec .entry))) q ⌝ }
@@ -176,7 +177,7 @@ fn jumps_out(rec: &[u8], t: &[u32; 1684], q: usize) -> u32
 }
 
 // How many arcs of activity a have the input place q: one or none, as only one arc can be of that place's kind.
-fn inputs_on(t: &[u32; 1684], q: usize, a: usize) -> u32
+fn inputs_on(t: &NetWords, q: usize, a: usize) -> u32
     requires { ⌜ Held (now t) ⌝ }
     requires { ⌜ (q < netIn (now t) .places) × (a < netIn (now t) .acts) ⌝ }
     ensures { λ r. ⌜ (r ≡ inputs (netIn (now (t .entry))) q a) × (r ≤ 1) ⌝ }
@@ -192,7 +193,7 @@ fn inputs_on(t: &[u32; 1684], q: usize, a: usize) -> u32
 }
 
 // How many objects the events took from place q.
-fn taken_by_events(rec: &[u8], t: &[u32; 1684], q: usize) -> u32
+fn taken_by_events(rec: &[u8], t: &NetWords, q: usize) -> u32
     requires { ⌜ Ready (now t) (now rec) ⌝ }
     requires { ⌜ q < netIn (now t) .places ⌝ }
     ensures { λ r. ⌜ (r ≡ sumTo (netIn (now (t .entry)) .acts) (λ a. getD (stateAt (now (rec .entry)) .fired) a 0 * inputs (netIn (now (t .entry))) q a)) × (r ≤ 64000000) ⌝ }
@@ -208,7 +209,7 @@ fn taken_by_events(rec: &[u8], t: &[u32; 1684], q: usize) -> u32
 }
 
 // 1 where the sink of object o is place q, else 0.
-fn sinks_on(rec: &[u8], t: &[u32; 1684], q: usize, o: usize) -> u32
+fn sinks_on(rec: &[u8], t: &NetWords, q: usize, o: usize) -> u32
     requires { ⌜ Ready (now t) (now rec) ⌝ }
     requires { ⌜ o < length (stateAt (now rec) .kinds) ⌝ }
     ensures { λ r. ⌜ (r ≡ one (eqb q (netIn (now (t .entry)) .sink (getD (stateAt (now (rec .entry)) .kinds) o 0)))) × (r ≤ 1) ⌝ }
@@ -221,7 +222,7 @@ fn sinks_on(rec: &[u8], t: &[u32; 1684], q: usize, o: usize) -> u32
 }
 
 // How many objects have the sink q.
-fn sunk_on(rec: &[u8], t: &[u32; 1684], q: usize) -> u32
+fn sunk_on(rec: &[u8], t: &NetWords, q: usize) -> u32
     requires { ⌜ Ready (now t) (now rec) ⌝ }
     ensures { λ r. ⌜ (r ≡ sunkOn (netIn (now (t .entry))) (stateAt (now (rec .entry)) .kinds) q) × (r ≤ 1024) ⌝ }
 {
@@ -236,7 +237,7 @@ fn sunk_on(rec: &[u8], t: &[u32; 1684], q: usize) -> u32
 }
 
 // TAKEN of place q: by the events as their input place, and by the close as a sink.
-fn consumed(rec: &[u8], t: &[u32; 1684], q: usize) -> u32
+fn consumed(rec: &[u8], t: &NetWords, q: usize) -> u32
     requires { ⌜ Ready (now t) (now rec) ⌝ }
     requires { ⌜ q < netIn (now t) .places ⌝ }
     ensures { λ r. ⌜ r ≡ storedConsumed (netIn (now (t .entry))) (stateAt (now (rec .entry))) q ⌝ }
@@ -247,7 +248,7 @@ fn consumed(rec: &[u8], t: &[u32; 1684], q: usize) -> u32
 }
 
 // The jumps of the whole trail: JUMPS of every activity, and the closing jumps.
-fn all_jumps(rec: &[u8], t: &[u32; 1684]) -> u32
+fn all_jumps(rec: &[u8], t: &NetWords) -> u32
     requires { ⌜ Ready (now t) (now rec) ⌝ }
     ensures { λ r. ⌜ r ≡ storedJumps (netIn (now (t .entry))) (stateAt (now (rec .entry))) ⌝ }
 {
@@ -263,7 +264,7 @@ fn all_jumps(rec: &[u8], t: &[u32; 1684]) -> u32
 }
 
 // The transfers of the whole trail: MOVED of every activity, and once closed the objects.
-fn transfers(rec: &[u8], t: &[u32; 1684]) -> u32
+fn transfers(rec: &[u8], t: &NetWords) -> u32
     requires { ⌜ Ready (now t) (now rec) ⌝ }
     ensures { λ r. ⌜ r ≡ storedTransfers (netIn (now (t .entry))) (stateAt (now (rec .entry))) ⌝ }
 {
@@ -279,7 +280,7 @@ fn transfers(rec: &[u8], t: &[u32; 1684]) -> u32
 }
 
 // Reads the counts of place q.
-pub fn read_place(rec: &[u8], t: &[u32; 1684], q: u32) -> PlaceRead
+pub fn read_place(rec: &[u8], t: &NetWords, q: u32) -> PlaceRead
     requires { ⌜ Ready (now t) (now rec) ⌝ }
     ensures { λ r. ⌜ r ≡ placeRead (now (rec .entry)) q ⌝ }
     ensures { λ r. ⌜ placeReadCode r ≡ placeCode (now (rec .entry)) q ⌝ }
@@ -296,7 +297,7 @@ pub fn read_place(rec: &[u8], t: &[u32; 1684], q: u32) -> PlaceRead
 }
 
 // Reads the counts of activity a.
-pub fn read_act(rec: &[u8], t: &[u32; 1684], a: u32) -> ActRead
+pub fn read_act(rec: &[u8], t: &NetWords, a: u32) -> ActRead
     requires { ⌜ Ready (now t) (now rec) ⌝ }
     ensures { λ r. ⌜ r ≡ actRead (now (rec .entry)) a ⌝ }
     ensures { λ r. ⌜ actReadCode r ≡ actCode (now (rec .entry)) a ⌝ }
@@ -313,7 +314,7 @@ pub fn read_act(rec: &[u8], t: &[u32; 1684], a: u32) -> ActRead
 }
 
 // Reads the jump count from place `from` to place `to`.
-pub fn read_pair(rec: &[u8], t: &[u32; 1684], from: u32, to: u32) -> PairRead
+pub fn read_pair(rec: &[u8], t: &NetWords, from: u32, to: u32) -> PairRead
     requires { ⌜ Ready (now t) (now rec) ⌝ }
     ensures { λ r. ⌜ r ≡ pairRead (now (rec .entry)) from to ⌝ }
     ensures { λ r. ⌜ pairReadCode r ≡ pairCode (now (rec .entry)) from to ⌝ }
@@ -331,7 +332,7 @@ pub fn read_pair(rec: &[u8], t: &[u32; 1684], from: u32, to: u32) -> PairRead
 }
 
 // Reads the counts of the whole trail, of an open one too.
-pub fn read_trail(rec: &[u8], t: &[u32; 1684]) -> TrailCounts
+pub fn read_trail(rec: &[u8], t: &NetWords) -> TrailCounts
     requires { ⌜ Ready (now t) (now rec) ⌝ }
     ensures { λ r. ⌜ r ≡ trailRead (now (rec .entry)) ⌝ }
 {

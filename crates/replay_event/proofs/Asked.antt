@@ -18,13 +18,14 @@ use Rattle.net.proofs.IndexLaws.{arc-has}
 use Rattle.replay.specs.Plain.{kindsOf, objectTests}
 use Rattle.replay.specs.Record.{counts, contents, encode, tableIn, stateIn}
 use Rattle.replay.specs.Calls.{netAt, stateAt}
-use Rattle.replay.specs.Offsets.{layoutOf}
+use Rattle.replay_objects.specs.Offsets.{layoutOf}
 use Rattle.replay.specs.Ready.{Ready, KnownKinds}
 use Rattle.replay_event.specs.Answers.{ObjectCode, Counted, Moving}
-use Rattle.replay.specs.declared.layout.Layout.{Layout}
+use Rattle.replay_objects.specs.declared.layout.Layout.{Layout}
 use Rattle.replay.proofs.Encode.{fit-kinds}
-use Rattle.replay.proofs.RecordLaws.{Placed, get-events, ready-loaded, ready-sound, ready-words, ready-length}
+use Rattle.replay_objects.proofs.RecordLaws.{Placed, get-events, ready-loaded, ready-sound, ready-words, ready-length}
 use Rattle.replay_moves.proofs.Layouts.{placed-at, words-size, words-few, kind-of-in}
+use Rattle.replay.specs.Limits.{maxRecord, maxWords}
 
 -- what the tests of an event's objects give
 pub object-code : (N : Net) (ks : List ℕ) (a : ℕ) (os : List ℕ) → ObjectCode (first (objectTests N ks a os))
@@ -48,7 +49,7 @@ module _ (w b : List ℕ) (l : Layout) (R : Ready w b) (e : l ≡ layoutOf (netI
   events-read = ap (λ (v : List ℕ). getD v (l .counts + 1) 0) (ready-words w b R) ∙ get-events (netIn w) (tableIn b) l (stateAt b) placed
 
   -- the register's bytes, and the kinds that they hold
-  pub register-fits : (4 * l .register ≤ 4 * l .positions) × (4 * l .positions ≤ length b) × (length b ≤ 29844)
+  pub register-fits : (4 * l .register ≤ 4 * l .positions) × (4 * l .positions ≤ length b) × (length b ≤ maxRecord)
   register-fits = omega (arith, words-size w b l R e, words-few w b l R e, ready-length w b R, placed .positions-at, placed .counts-at, placed .jumps-at)
 
   pub register-words : wordsOf (take (4 * l .positions - 4 * l .register) (drop (4 * l .register) b)) ≡ stateAt b .kinds
@@ -85,7 +86,7 @@ module _ (w b : List ℕ) (l : Layout) (a : ℕ) (os : List ℕ) (M : Moving w b
   kind-is i h = map-at (λ (o : ℕ). getD (stateAt b .kinds) o 0) 0 0 os i h
 
   -- the jumps of the activity are one of the counts
-  pub own-in : (l .counts + (4 + 2 * a) < l .jumps) × (l .jumps ≤ 7461)
+  pub own-in : (l .counts + (4 + 2 * a) < l .jumps) × (l .jumps ≤ maxWords)
   own-in =
       (omega (arith, M .counted .act-in, laid .jumps-at), omega (arith, words-size w b l (M .counted .ready) (M .counted .lay), words-few w b l (M .counted .ready) (M .counted .lay)))
 

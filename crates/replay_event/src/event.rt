@@ -1,12 +1,13 @@
 // An event on a trail in lent bytes: refused with the first number from 21 to 27 that applies, or carried out in place.
 // Its objects are bytes too, four a number, as a trail file and the client have them.
 
-use replay::layout::Layout;
-use replay::layout::read_layout;
-use replay::objects::refuse_objects;
+use net::NetWords;
 use replay_moves::add;
 use replay_moves::add_one;
 use replay_moves::move_object;
+use replay_objects::layout::Layout;
+use replay_objects::layout::read_layout;
+use replay_objects::objects::refuse_objects;
 ghost use mathlib.Core.Path.{_≡_};
 ghost use Rattle.words.specs.Refusals.{first};
 ghost use Rattle.words.specs.Words.{wordsOf};
@@ -15,7 +16,7 @@ ghost use Rattle.replay.specs.Plain.{legs, objectTests};
 ghost use Rattle.replay.specs.State.{actJumps, afterLegs, afterEvent, answerS};
 ghost use Rattle.replay.specs.Record.{tableIn, recordWords};
 ghost use Rattle.replay.specs.Calls.{stateAt, askCode, askBytes};
-ghost use Rattle.replay.specs.Offsets.{layoutOf};
+ghost use Rattle.replay_objects.specs.Offsets.{layoutOf};
 ghost use Rattle.replay.specs.Ready.{Ready};
 ghost use Rattle.replay_event.specs.Answers.{eventCode, askEvent, ObjectCode, Counted, Moving};
 
@@ -52,7 +53,7 @@ fn object_answer(code: u32) -> EventAnswer
 }
 
 // 25 to 27: the tests of an event's objects.
-fn test_objects(rec: &[u8], t: &[u32; 1684], lay: Layout, act: usize, objs: &[u8]) -> EventAnswer
+fn test_objects(rec: &[u8], t: &NetWords, lay: Layout, act: usize, objs: &[u8]) -> EventAnswer
     requires { ⌜ Counted (now t) (now rec) lay act (wordsOf (now objs)) ⌝ }
     ensures code { λ r. ⌜ eventCode r ≡ first (objectTests (netIn (now (t .entry))) (stateAt (now (rec .entry)) .kinds) act (wordsOf (now (objs .entry)))) ⌝ }
 {
@@ -62,7 +63,7 @@ fn test_objects(rec: &[u8], t: &[u32; 1684], lay: Layout, act: usize, objs: &[u8
 }
 
 // 21 to 27: the first that applies.
-fn refuse(rec: &[u8], t: &[u32; 1684], lay: Layout, act: usize, objs: &[u8]) -> EventAnswer
+fn refuse(rec: &[u8], t: &NetWords, lay: Layout, act: usize, objs: &[u8]) -> EventAnswer
     requires { ⌜ Ready (now t) (now rec) ⌝ }
     requires { ⌜ lay ≡ layoutOf (netIn (now t)) (now rec) ⌝ }
     ensures code { λ r. ⌜ eventCode r ≡ answerS (netIn (now (t .entry))) (stateAt (now (rec .entry))) (askEvent act (wordsOf (now (objs .entry)))) ⌝ }
@@ -83,7 +84,7 @@ fn refuse(rec: &[u8], t: &[u32; 1684], lay: Layout, act: usize, objs: &[u8]) -> 
 }
 
 // Every object of the event jumps where it has to, and is moved; the activity's jumps are added once, behind the last object.
-fn step_objects(rec: &mut [u8], t: &[u32; 1684], lay: Layout, act: usize, objs: &[u8])
+fn step_objects(rec: &mut [u8], t: &NetWords, lay: Layout, act: usize, objs: &[u8])
     requires { ⌜ Moving (now t) (now rec) lay act (wordsOf (now objs)) ⌝ }
     ensures { λ _. ⌜ wordsOf (now (rec .exit)) ≡ recordWords (tableIn (now (rec .entry))) (afterLegs (netIn (now (t .entry))) actJumps (stateAt (now (rec .entry))) (legs (netIn (now (t .entry))) (stateAt (now (rec .entry)) .kinds) (record { act = act; objs = wordsOf (now (objs .entry)) }))) ⌝ }
 {
@@ -102,7 +103,7 @@ fn step_objects(rec: &mut [u8], t: &[u32; 1684], lay: Layout, act: usize, objs: 
 }
 
 // An event to which none of 21 to 27 applies is carried out and counted.
-fn take_event(rec: &mut [u8], t: &[u32; 1684], lay: Layout, act: usize, objs: &[u8])
+fn take_event(rec: &mut [u8], t: &NetWords, lay: Layout, act: usize, objs: &[u8])
     requires { ⌜ Moving (now t) (now rec) lay act (wordsOf (now objs)) ⌝ }
     ensures { λ _. ⌜ wordsOf (now (rec .exit)) ≡ recordWords (tableIn (now (rec .entry))) (afterEvent (netIn (now (t .entry))) (stateAt (now (rec .entry))) (record { act = act; objs = wordsOf (now (objs .entry)) })) ⌝ }
 {
@@ -112,7 +113,7 @@ fn take_event(rec: &mut [u8], t: &[u32; 1684], lay: Layout, act: usize, objs: &[
 }
 
 // Carries out an event to which none of 21 to 27 applies, as the caller has found; it is not tested again.
-pub fn apply(rec: &mut [u8], t: &[u32; 1684], act: u32, objs: &[u8])
+pub fn apply(rec: &mut [u8], t: &NetWords, act: u32, objs: &[u8])
     requires { ⌜ Ready (now t) (now rec) ⌝ }
     requires { ⌜ askCode (now rec) (askEvent act (wordsOf (now objs))) ≡ 0 ⌝ }
     ensures { λ _. ⌜ now (rec .exit) ≡ askBytes (now (rec .entry)) (askEvent act (wordsOf (now (objs .entry)))) ⌝ }
@@ -122,7 +123,7 @@ pub fn apply(rec: &mut [u8], t: &[u32; 1684], act: u32, objs: &[u8])
 }
 
 // Puts an event to a trail: it is refused and nothing changes, or it is carried out in the record's bytes.
-pub fn event(rec: &mut [u8], t: &[u32; 1684], act: u32, objs: &[u8]) -> EventAnswer
+pub fn event(rec: &mut [u8], t: &NetWords, act: u32, objs: &[u8]) -> EventAnswer
     requires { ⌜ Ready (now t) (now rec) ⌝ }
     ensures { λ r. ⌜ (eventCode r ≡ askCode (now (rec .entry)) (askEvent act (wordsOf (now (objs .entry))))) × (now (rec .exit) ≡ askBytes (now (rec .entry)) (askEvent act (wordsOf (now (objs .entry))))) ⌝ }
 {

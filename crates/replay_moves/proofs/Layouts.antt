@@ -9,10 +9,11 @@ use Rattle.words.proofs.Lists.{All-at}
 use Rattle.net.specs.Held.{netIn}
 use Rattle.replay.specs.Record.{tableIn}
 use Rattle.replay.specs.Calls.{stateAt}
-use Rattle.replay.specs.Offsets.{layoutOf}
+use Rattle.replay_objects.specs.Offsets.{layoutOf}
 use Rattle.replay.specs.Ready.{Ready}
-use Rattle.replay.specs.declared.layout.Layout.{Layout}
-use Rattle.replay.proofs.RecordLaws.{Placed, record-size, record-few, get-closed, ready-sound, ready-words, ready-placed}
+use Rattle.replay_objects.specs.declared.layout.Layout.{Layout}
+use Rattle.replay_objects.proofs.RecordLaws.{Placed, record-size, record-few, get-closed, ready-sound, ready-words, ready-placed}
+use Rattle.replay.specs.Limits.{maxWords}
 
 module _ (w b : List ℕ) (l : Layout) (R : Ready w b) (e : l ≡ layoutOf (netIn w) b) where
   pub placed-at : Placed (netIn w) (tableIn b) l (stateAt b)
@@ -21,10 +22,10 @@ module _ (w b : List ℕ) (l : Layout) (R : Ready w b) (e : l ≡ layoutOf (netI
   pub words-size : length (wordsOf b) ≡ l .jumps + l .places * l .places
   words-size = ap length (ready-words w b R) ∙ record-size (netIn w) (tableIn b) l (stateAt b) placed-at
 
-  pub words-few : length (wordsOf b) ≤ 7461
+  pub words-few : length (wordsOf b) ≤ maxWords
   words-few = rw (ready-words w b R) (record-few (netIn w) (tableIn b) l (stateAt b) placed-at)
 
-  pub counts-few : l .counts + (3 + 2 * netIn w .acts) ≤ 7461
+  pub counts-few : l .counts + (3 + 2 * netIn w .acts) ≤ maxWords
   counts-few = omega (arith, words-size, words-few, placed-at .jumps-at)
 
   pub closed-in : l .counts < length (wordsOf b)

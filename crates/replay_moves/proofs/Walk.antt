@@ -17,8 +17,9 @@ use Rattle.replay.specs.State.{State, withPlaces, withClosing, withJumps, withP
 use Rattle.replay.specs.Record.{recordWords}
 use Rattle.replay.specs.Claims.{judged}
 use Rattle.replay_moves.specs.Moves.{placeAt, pairAt, raise, jumpsTo, goWords, CanAdd, CanMove}
-use Rattle.replay.specs.declared.layout.Layout.{Layout}
-use Rattle.replay.proofs.RecordLaws.{Placed, placed-same, record-size, record-few, get-kind, get-place, get-pair, get-jumps, get-closing, put-place, put-pair, put-jumps, put-closing}
+use Rattle.replay_objects.specs.declared.layout.Layout.{Layout}
+use Rattle.replay_objects.proofs.RecordLaws.{Placed, placed-same, record-size, record-few, get-kind, get-place, get-pair, get-jumps, get-closing, put-place, put-pair, put-jumps, put-closing}
+use Rattle.replay.specs.Limits.{maxWords}
 
 -- a jump from p to q is counted at the pair and at number `own`; where p is q there is none
 unfoldable jumpWords : Layout → ℕ → ℕ → ℕ → List ℕ → List ℕ
@@ -174,7 +175,7 @@ module _ (N : Net) (table : List ℕ) (l : Layout) (b own s : ℕ) (d : State) (
   other : (j : ℕ) → (j ≡ own → ⊥) → getD w j 0 ≡ getD (raise w own s) j 0
   other j n = sym (getD-set-other w own j (getD w own 0 + s) 0 n)
 
-  pub sum-few : length w ≤ 7461
+  pub sum-few : length w ≤ maxWords
   sum-few = omega (arith, length-set w own (getD w own 0 + s), ap length (W .words), record-few N table l d (W .placed))
 
   -- the register's numbers

@@ -4,7 +4,8 @@ use mathlib.Core.List.{List}
 use lib.ListN.{length, getD, set}
 use lib.Dec.{eqb}
 use Rattle.words.specs.Lists.{pick}
-use Rattle.replay.specs.declared.layout.Layout.{Layout}
+use Rattle.replay_objects.specs.declared.layout.Layout.{Layout}
+use Rattle.replay.specs.Limits.{maxWords}
 
 -- where the place of object o stands, and the jump count of the pair (p, q)
 abbrev pub placeAt : Layout → ℕ → ℕ
@@ -32,6 +33,6 @@ pub record CanAdd (i d : ℕ) (w : List ℕ) : Type 0 where
 
 -- an object can be moved
 pub record CanMove (l : Layout) (o inp : ℕ) (w : List ℕ) : Type 0 where
-  pub size : length w ≤ 7461
+  pub size : length w ≤ maxWords
   pub place : placeAt l o < length w
   pub pair : CanAdd (pairAt l (getD w (placeAt l o) 0) inp) 1 w

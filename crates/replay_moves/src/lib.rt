@@ -1,7 +1,7 @@
 // One object of an event or of the close: it is sought on a place, jumps there from any other, and is left on a place.
 // Above `replay`, whose layout it uses. `replay_event` and `replay_close` move objects by it, and share its laws.
 
-use replay::layout::Layout;
+use replay_objects::layout::Layout;
 ghost use mathlib.Core.Path.{_≡_};
 ghost use Prim.Native.Nat.{_+_, _≤_};
 ghost use lib.Dec.{eqb};

@@ -15,9 +15,10 @@ use Rattle.replay.proofs.Encode.{encode-le}
 use Rattle.replay.proofs.Records.{table-at, net-at, state-at, intact-at}
 use Rattle.replay_start.specs.Startable.{Startable}
 use Rattle.replay_start.proofs.StartLaws.{begun, loaded, sound, table-few}
+use Rattle.replay.specs.Limits.{maxRecord}
 
 module _ (t table objects : List ℕ) (S : Startable t table objects) (ok : registerCode (netOf table) (wordsOf objects) ≡ 0) where
-  pub start-fits : length (startRecord table (wordsOf objects)) ≤ 29844
+  pub start-fits : length (startRecord table (wordsOf objects)) ≤ maxRecord
   unfolding startRecord
   start-fits = encode-le (netOf table) (loaded t table objects S ok) table (begun table objects) (sound t table objects S ok) (table-few t table objects S ok)
 

@@ -26,6 +26,7 @@ use Rattle.replay_start.specs.Startable.{Startable, contentsOf}
 use Rattle.replay.proofs.Accepted.{registered}
 use Rattle.replay.proofs.Keep.{sound-start}
 use Rattle.replay.proofs.Encode.{laid, bytes-encode, counts-size}
+use Rattle.net.specs.Limits.{maxTable}
 
 -- one run of stores behind another
 run-on : (xs ys w : List ℕ) (i : ℕ) → sets (sets w i xs) (i + length xs) ys ≡ sets w i (xs ++ ys)
@@ -71,7 +72,7 @@ module _ (t table objects : List ℕ) (S : Startable t table objects) (ok : regi
   rows : 4 * length (wordsOf objects) ≡ length objects
   rows = four-times (length objects) (length (wordsOf objects)) (S .whole) (length-words objects)
 
-  pub table-few : length table ≤ 4704
+  pub table-few : length table ≤ maxTable
   table-few = table-size table (S .tabled .taken) .1
 
   pub objects-few : length objects ≤ 4096

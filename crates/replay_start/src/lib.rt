@@ -1,7 +1,8 @@
 // Starting a trail: its first record, written into lent bytes from a loaded table and the objects' kinds.
 // Above `net_lookup` and `replay`, whose definitions its contracts cite. The program and the C calls start by it.
 
-use replay::register::register_refusal;
+use net::NetWords;
+use replay_objects::register::register_refusal;
 ghost use mathlib.Core.Path.{_≡_};
 ghost use mathlib.Core.List.{map};
 ghost use Prim.Native.Nat.{ℕ, _+_, _*_, _<_, _≤_};
@@ -16,6 +17,7 @@ ghost use Rattle.replay.specs.Record.{countsSize};
 ghost use Rattle.replay.specs.Calls.{startRecord, startCode, startBytes};
 ghost use Rattle.replay_start.specs.StartAnswers.{startAnswerCode};
 ghost use Rattle.replay_start.specs.Startable.{Startable, contentsOf};
+ghost use Rattle.net.specs.Limits.{maxTable};
 
 // The answer to starting. `startAnswerCode` gives document 01's number.
 pub enum StartAnswer {
@@ -29,7 +31,7 @@ pub enum StartAnswer {
 }
 
 // How many bytes the counts take.
-fn counts_bytes(t: &[u32; 1684]) -> usize
+fn counts_bytes(t: &NetWords) -> usize
     requires { ⌜ Held (now t) ⌝ }
     ensures { λ r. ⌜ (r ≡ 4 * countsSize (netIn (now (t .entry)))) × (r ≤ 524) ⌝ }
 {
@@ -38,7 +40,7 @@ fn counts_bytes(t: &[u32; 1684]) -> usize
 }
 
 // How many bytes the jump counts of all pairs of places take.
-fn pairs_bytes(t: &[u32; 1684]) -> usize
+fn pairs_bytes(t: &NetWords) -> usize
     requires { ⌜ Held (now t) ⌝ }
     ensures { λ r. ⌜ (r ≡ 4 * (netIn (now (t .entry)) .places * netIn (now (t .entry)) .places)) × (r ≤ 16384) ⌝ }
 {
@@ -47,9 +49,9 @@ fn pairs_bytes(t: &[u32; 1684]) -> usize
 }
 
 // How many bytes the record takes, by those of the table and of the register.
-pub fn record_bytes(t: &[u32; 1684], table: usize, objects: usize) -> usize
+pub fn record_bytes(t: &NetWords, table: usize, objects: usize) -> usize
     requires { ⌜ Held (now t) ⌝ }
-    requires { ⌜ (table ≤ 4704) × (objects ≤ 4096) ⌝ }
+    requires { ⌜ (table ≤ maxTable) × (objects ≤ 4096) ⌝ }
     ensures { λ r. ⌜ r ≡ 40 + table + objects + objects + 4 * countsSize (netIn (now (t .entry))) + 4 * (netIn (now (t .entry)) .places * netIn (now (t .entry)) .places) ⌝ }
 {
     40 + table + objects + objects + counts_bytes(t) + pairs_bytes(t)
@@ -95,7 +97,7 @@ fn copy_words(s: &[u8], out: &mut [u8], base: usize)
 }
 
 // The source of an object's kind, the register's number i, as number `at`.
-fn put_source(t: &[u32; 1684], objects: &[u8], i: usize, out: &mut [u8], at: usize)
+fn put_source(t: &NetWords, objects: &[u8], i: usize, out: &mut [u8], at: usize)
     requires { ⌜ Held (now t) ⌝ }
     requires { ⌜ All (λ (k : ℕ). k < netIn (now t) .kinds) (wordsOf (now objects)) ⌝ }
     requires { ⌜ (i < length (wordsOf (now objects))) × (at < length (wordsOf (now out))) ⌝ }
@@ -107,7 +109,7 @@ fn put_source(t: &[u32; 1684], objects: &[u8], i: usize, out: &mut [u8], at: usi
 }
 
 // The positions: each object stands on its kind's source.
-fn put_sources(t: &[u32; 1684], objects: &[u8], out: &mut [u8], base: usize)
+fn put_sources(t: &NetWords, objects: &[u8], out: &mut [u8], base: usize)
     requires { ⌜ Held (now t) ⌝ }
     requires { ⌜ All (λ (k : ℕ). k < netIn (now t) .kinds) (wordsOf (now objects)) ⌝ }
     requires { ⌜ base + length (wordsOf (now objects)) ≤ length (wordsOf (now out)) ⌝ }
@@ -134,7 +136,7 @@ fn put_zeros(out: &mut [u8], base: usize, n: usize)
 }
 
 // The record, into bytes that have just room for it.
-fn fill(t: &[u32; 1684], table: &[u8], objects: &[u8], out: &mut [u8])
+fn fill(t: &NetWords, table: &[u8], objects: &[u8], out: &mut [u8])
     requires { ⌜ Startable (now t) (now table) (now objects) ⌝ }
     requires { ⌜ registerCode (netOf (now table)) (wordsOf (now objects)) ≡ 0 ⌝ }
     requires { ⌜ length (now out) ≡ length (startRecord (now table) (wordsOf (now objects))) ⌝ }
@@ -153,7 +155,7 @@ fn fill(t: &[u32; 1684], table: &[u8], objects: &[u8], out: &mut [u8])
 }
 
 // Starting with a register to which neither 11 nor 12 applies.
-fn write_start(t: &[u32; 1684], table: &[u8], objects: &[u8], rec: &mut [u8]) -> StartAnswer
+fn write_start(t: &NetWords, table: &[u8], objects: &[u8], rec: &mut [u8]) -> StartAnswer
     requires { ⌜ Startable (now t) (now table) (now objects) ⌝ }
     requires { ⌜ registerCode (netOf (now table)) (wordsOf (now objects)) ≡ 0 ⌝ }
     ensures { λ r. ⌜ startAnswerCode r ≡ startCode (now (table .entry)) (wordsOf (now (objects .entry))) (length (now (rec .entry))) ⌝ }
@@ -169,7 +171,7 @@ fn write_start(t: &[u32; 1684], table: &[u8], objects: &[u8], rec: &mut [u8]) ->
 
 // Starts a trail: its record in front of the lent bytes. `table` is the table file whose net `t` holds, `objects` the
 // register, the kind of each object. Where it is refused no byte changes.
-pub fn start(t: &[u32; 1684], table: &[u8], objects: &[u8], rec: &mut [u8]) -> StartAnswer
+pub fn start(t: &NetWords, table: &[u8], objects: &[u8], rec: &mut [u8]) -> StartAnswer
     requires { ⌜ Startable (now t) (now table) (now objects) ⌝ }
     ensures { λ r. ⌜ startAnswerCode r ≡ startCode (now (table .entry)) (wordsOf (now (objects .entry))) (length (now (rec .entry))) ⌝ }
     ensures { λ _. ⌜ now (rec .exit) ≡ startBytes (now (table .entry)) (wordsOf (now (objects .entry))) (now (rec .entry)) ⌝ }

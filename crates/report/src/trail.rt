@@ -1,6 +1,7 @@
 // The lines of a trail, from its bytes: an unknown place (51) or activity (52) is refused before the lent part is looked at.
 
 use lines::LineAnswer;
+use net::NetWords;
 use replay_counts::ActRead;
 use replay_counts::PairRead;
 use replay_counts::PlaceRead;
@@ -15,7 +16,7 @@ ghost use Rattle.lines.specs.Answer.{Writes};
 ghost use Rattle.report.specs.TrailLines.{trailLineAt, placeLineAt, actLineAt, jumpLineAt};
 
 // The line of the whole trail, of an open one too.
-pub fn trail_line(rec: &[u8], t: &[u32; 1684], out: &mut [u8]) -> LineAnswer
+pub fn trail_line(rec: &[u8], t: &NetWords, out: &mut [u8]) -> LineAnswer
     requires { ⌜ Ready (now t) (now rec) ⌝ }
     ensures { λ r. ⌜ Writes [] (trailLineAt (now (rec .entry))) (now (out .entry)) r (now (out .exit)) ⌝ }
 {
@@ -24,7 +25,7 @@ pub fn trail_line(rec: &[u8], t: &[u32; 1684], out: &mut [u8]) -> LineAnswer
 }
 
 // The line of place q.
-pub fn place_line(rec: &[u8], t: &[u32; 1684], q: u32, out: &mut [u8]) -> LineAnswer
+pub fn place_line(rec: &[u8], t: &NetWords, q: u32, out: &mut [u8]) -> LineAnswer
     requires { ⌜ Ready (now t) (now rec) ⌝ }
     ensures { λ r. ⌜ Writes (placeTests (now (rec .entry)) q) (placeLineAt (now (rec .entry)) q) (now (out .entry)) r (now (out .exit)) ⌝ }
 {
@@ -35,7 +36,7 @@ pub fn place_line(rec: &[u8], t: &[u32; 1684], q: u32, out: &mut [u8]) -> LineAn
 }
 
 // The line of activity a.
-pub fn act_line(rec: &[u8], t: &[u32; 1684], a: u32, out: &mut [u8]) -> LineAnswer
+pub fn act_line(rec: &[u8], t: &NetWords, a: u32, out: &mut [u8]) -> LineAnswer
     requires { ⌜ Ready (now t) (now rec) ⌝ }
     ensures { λ r. ⌜ Writes (actTests (now (rec .entry)) a) (actLineAt (now (rec .entry)) a) (now (out .entry)) r (now (out .exit)) ⌝ }
 {
@@ -46,7 +47,7 @@ pub fn act_line(rec: &[u8], t: &[u32; 1684], a: u32, out: &mut [u8]) -> LineAnsw
 }
 
 // The line of the jumps from one place to another; nothing where there are none.
-pub fn jump_line(rec: &[u8], t: &[u32; 1684], from: u32, to: u32, out: &mut [u8]) -> LineAnswer
+pub fn jump_line(rec: &[u8], t: &NetWords, from: u32, to: u32, out: &mut [u8]) -> LineAnswer
     requires { ⌜ Ready (now t) (now rec) ⌝ }
     ensures { λ r. ⌜ Writes (pairTests (now (rec .entry)) from to) (jumpLineAt (now (rec .entry)) from to) (now (out .entry)) r (now (out .exit)) ⌝ }
 {

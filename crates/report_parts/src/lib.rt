@@ -2,6 +2,7 @@
 // Above `report`, which writes a line of a trail; `program_output` uses it.
 
 use lines::LineAnswer;
+use net::NetWords;
 use report::trail::act_line;
 use report::trail::jump_line;
 use report::trail::place_line;
@@ -22,7 +23,7 @@ pub struct Part {
 
 // How many lines the report has: the trail's, one for each place and activity, and one for each pair of places, which is
 // empty where the pair has no jumps.
-pub fn line_count(t: &[u32; 1684]) -> u32
+pub fn line_count(t: &NetWords) -> u32
     requires { ⌜ Held (now t) ⌝ }
     ensures { λ r. ⌜ r ≡ linesOn (netIn (now (t .entry))) ⌝ }
 {
@@ -32,7 +33,7 @@ pub fn line_count(t: &[u32; 1684]) -> u32
 }
 
 // Line i of the report.
-fn line(rec: &[u8], t: &[u32; 1684], i: u32, out: &mut [u8]) -> LineAnswer
+fn line(rec: &[u8], t: &NetWords, i: u32, out: &mut [u8]) -> LineAnswer
     requires { ⌜ Ready (now t) (now rec) ⌝ }
     requires { ⌜ i < linesIn (now rec) ⌝ }
     ensures { λ r. ⌜ Writes [] (lineAt (now (rec .entry)) i) (now (out .entry)) r (now (out .exit)) ⌝ }
@@ -55,7 +56,7 @@ fn line(rec: &[u8], t: &[u32; 1684], i: u32, out: &mut [u8]) -> LineAnswer
 }
 
 // The lines from line `from` on, one behind the other, up to the first that does not fit.
-pub fn put_lines(rec: &[u8], t: &[u32; 1684], from: u32, out: &mut [u8]) -> Part
+pub fn put_lines(rec: &[u8], t: &NetWords, from: u32, out: &mut [u8]) -> Part
     requires { ⌜ Ready (now t) (now rec) ⌝ }
     ensures { λ r. ⌜ Puts (now (rec .entry)) from (now (out .entry)) r (now (out .exit)) ⌝ }
 {

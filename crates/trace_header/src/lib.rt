@@ -1,7 +1,8 @@
 // Opening a trail file: what its contents say, 71, then 11 and 12 of its register.
 // Above `words`, `net` and `replay`; `trace_reader` reads the events behind the register, `conform` opens the trail that it is given.
 
-use replay::register::register_refusal;
+use net::NetWords;
+use replay_objects::register::register_refusal;
 use words::wide;
 use words::word_at;
 ghost use mathlib.Core.Path.{_≡_};
@@ -46,7 +47,7 @@ pub fn read_contents(head: &[u8]) -> Contents
 // 71, 11, 12 or 0 for a file whose contents are not broken. Its register claims `claimed` bytes; `there` counts the bytes behind the
 // contents, all or up to as many as are claimed; `held` is the register's bytes, where they are all there and at most 4,096. A longer
 // register is counted and not held.
-pub fn opening_refusal(claimed: usize, there: usize, held: &[u8], t: &[u32; 1684]) -> u32
+pub fn opening_refusal(claimed: usize, there: usize, held: &[u8], t: &NetWords) -> u32
     requires { ⌜ Held (now t) ⌝ }
     ensures { λ r. ⌜ r ≡ openCode (netIn (now (t .entry))) claimed there (wordsOf (now (held .entry))) ⌝ }
 {
@@ -60,7 +61,7 @@ pub fn opening_refusal(claimed: usize, there: usize, held: &[u8], t: &[u32; 1684
 }
 
 // The same for a file that is held whole.
-fn held_refusal(file: &[u8], claimed: usize, t: &[u32; 1684]) -> u32
+fn held_refusal(file: &[u8], claimed: usize, t: &NetWords) -> u32
     requires { ⌜ Held (now t) ⌝ }
     requires { ⌜ 16 ≤ length (now file) ⌝ }
     ensures { λ r. ⌜ r ≡ openCode (netIn (now (t .entry))) claimed (length (now (file .entry)) - 16) (wordsOf (take claimed (drop 16 (now (file .entry))))) ⌝ }
@@ -74,7 +75,7 @@ fn held_refusal(file: &[u8], claimed: usize, t: &[u32; 1684]) -> u32
 }
 
 // 71, 11, 12 or 0 for a file that is held whole.
-pub fn trace_refusal(file: &[u8], t: &[u32; 1684]) -> u32
+pub fn trace_refusal(file: &[u8], t: &NetWords) -> u32
     requires { ⌜ Held (now t) ⌝ }
     ensures { λ r. ⌜ r ≡ traceCode (netIn (now (t .entry))) (now (file .entry)) ⌝ }
 {

@@ -2,9 +2,10 @@
 // Above `trace_header`, which says where the events stand, `replay` and `net`; `program_events` uses it.
 
 use crate::objects::read_objects;
+use net::NetWords;
 use net_lookup::acts;
 use net_lookup::arcs;
-use replay::objects::refuse_objects;
+use replay_objects::objects::refuse_objects;
 use trace_header::Contents;
 use trace_header::read_contents;
 use words::wide;
@@ -76,7 +77,7 @@ fn end_found(window: &[u8], at: usize) -> Answer
 }
 
 // 23, 24, 73 or 0: the activity, the number of objects, the objects' bytes.
-fn refuse_counts(window: &[u8], body: usize, at: usize, t: &[u32; 1684]) -> u32
+fn refuse_counts(window: &[u8], body: usize, at: usize, t: &NetWords) -> u32
     requires { ⌜ Held (now t) ⌝ }
     requires { ⌜ (8 ≤ length (now window)) × (at + 8 ≤ body) ⌝ }
     ensures { λ r. ⌜ r ≡ first (countTests (netIn (now (t .entry))) (now (window .entry)) body at) ⌝ }
@@ -99,7 +100,7 @@ fn refuse_counts(window: &[u8], body: usize, at: usize, t: &[u32; 1684]) -> u32
 }
 
 // 73, 22, 23, 24 or 0: all tests before the objects.
-fn refuse_front(window: &[u8], body: usize, at: usize, accepted: u32, t: &[u32; 1684]) -> u32
+fn refuse_front(window: &[u8], body: usize, at: usize, accepted: u32, t: &NetWords) -> u32
     requires { ⌜ Held (now t) ⌝ }
     ensures { λ r. ⌜ r ≡ first (frontTests (netIn (now (t .entry))) accepted (now (window .entry)) body at) ⌝ }
 {
@@ -119,7 +120,7 @@ fn refuse_front(window: &[u8], body: usize, at: usize, accepted: u32, t: &[u32; 
 }
 
 // The event at the front of the window, or 25, 26 or 27.
-fn read_event(window: &[u8], at: usize, register: &[u8], t: &[u32; 1684]) -> Answer
+fn read_event(window: &[u8], at: usize, register: &[u8], t: &NetWords) -> Answer
     requires { ⌜ Held (now t) ⌝ }
     requires { ⌜ KnownKinds (netIn (now t)) (wordsOf (now register)) ⌝ }
     requires { ⌜ Ready (netIn (now t)) (now window) at ⌝ }
@@ -168,7 +169,7 @@ impl Cursor {
         body: usize,
         accepted: u32,
         register: &[u8],
-        t: &[u32; 1684],
+        t: &NetWords,
     ) -> Answer
         requires { ⌜ Held (now t) ⌝ }
         requires { ⌜ KnownKinds (netIn (now t)) (wordsOf (now register)) ⌝ }
@@ -194,7 +195,7 @@ impl Cursor {
         body: usize,
         accepted: u32,
         register: &[u8],
-        t: &[u32; 1684],
+        t: &NetWords,
     ) -> Answer
         requires { ⌜ Held (now t) ⌝ }
         requires { ⌜ KnownKinds (netIn (now t)) (wordsOf (now register)) ⌝ }
@@ -218,7 +219,7 @@ impl Cursor {
     }
 
     // Reads in a file that is held whole.
-    pub fn read(self, file: &[u8], accepted: u32, register: &[u8], t: &[u32; 1684]) -> Answer
+    pub fn read(self, file: &[u8], accepted: u32, register: &[u8], t: &NetWords) -> Answer
         requires { ⌜ Held (now t) ⌝ }
         requires { ⌜ KnownKinds (netIn (now t)) (wordsOf (now register)) ⌝ }
         ensures answer { λ r. ⌜ r ≡ readAt (netIn (now (t .entry))) (wordsOf (now (register .entry))) accepted (now (file .entry)) (self .at) ⌝ }

@@ -13,6 +13,7 @@ use Rattle.checkpoint_restore.proofs.Opening.{spread, opened, table-ref
 use borrow.Author.Needs.{needs}
 use Rattle.checkpoint_restore.proofs.check_table.Statement.{statement}
 use Rattle.checkpoint_restore.proofs.check_table.Tie as tie
+use Rattle.net.specs.Limits.{netWords}
 
 table-is : (c : tie.After-wide) → take (40 + c .wide .result - 40) (drop 40 (c .before .before .before .args .rec .now)) ≡ tableIn (c .before .before .before .args .rec .now)
 table-is c =
@@ -31,7 +32,7 @@ net-held c =
     let t = table-is (c .before .before .before .before .before) in
     subst (Opened (s .args .rec .now))
     (sym (c .before .before .load-fresh .ensures .1 (ap loadCode t ∙ z) ∙ ap₂ loadedWords t (s .pre .1)))
-    (opened (s .args .rec .now) (s .pre .0) (replicate 1684 0) (length-replicate {A = ℕ} 1684 0) z)
+    (opened (s .args .rec .now) (s .pre .0) (replicate netWords 0) (length-replicate {A = ℕ} netWords 0) z)
 
 word-at-requires : tie.Need-word-at-requires
 word-at-requires c κs = search needs

@@ -7,6 +7,7 @@ use Rattle.client.proofs.Starts.{table-stops}
 use borrow.Author.Needs.{needs}
 use Rattle.client.proofs.conform_start.Statement.{statement}
 use Rattle.client.proofs.conform_start.Tie as tie
+use Rattle.net.specs.Limits.{netWords}
 
 load-fresh-requires : tie.Need-load-fresh-requires
 load-fresh-requires c κs = search needs
@@ -25,7 +26,7 @@ returns c = let a = c .before .before .before .before .before .before .before .b
 begin-requires : tie.Need-begin-requires
 begin-requires c κs = let k = c .before .before .before .before .load-fresh in
     let z = sym (c .before .before .before .number .ensures ∙ k .ensures .0) ∙ c .before .before .if1 .left in
-    loaded-tabled _ _ (length-replicate {A = ℕ} 1684 0) z _ (k .ensures .1 z)
+    loaded-tabled _ _ (length-replicate {A = ℕ} netWords 0) z _ (k .ensures .1 z)
 
 same-length : tie.Need-same-length
 same-length c = search needs

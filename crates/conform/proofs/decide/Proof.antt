@@ -8,6 +8,7 @@ use Rattle.conform.proofs.Texts.{load-refused}
 use borrow.Author.Needs.{needs}
 use Rattle.conform.proofs.decide.Statement.{statement}
 use Rattle.conform.proofs.decide.Tie as tie
+use Rattle.net.specs.Limits.{netWords}
 
 load-fresh-requires : tie.Need-load-fresh-requires
 load-fresh-requires c κs = search needs
@@ -26,7 +27,7 @@ read-trail-requires c κs =
     let l = c .before .before .before .before .load-fresh in
     let z : codeOf (l .result) ≡ 0 = sym (c .before .before .before .number .ensures) ∙ c .before .before .if1 .left in
     let y = sym (l .ensures .0) ∙ z in
-    (loaded-tabled (s .args .table .now) (s .args .t .now) (ap length (s .pre .0) ∙ length-replicate {A = ℕ} 1684 0) y (l .last .1 .0) (l .ensures .1 y), s .pre .1)
+    (loaded-tabled (s .args .table .now) (s .args .t .now) (ap length (s .pre .0) ∙ length-replicate {A = ℕ} netWords 0) y (l .last .1 .0) (l .ensures .1 y), s .pre .1)
 
 same-length : tie.Need-same-length
 same-length c = search needs

@@ -10,15 +10,16 @@ use Rattle.net_loader.proofs.LoadLaws.{shape}
 use borrow.Author.Needs.{needs}
 use Rattle.net_loader.proofs.copy_front.Statement.{statement}
 use Rattle.net_loader.proofs.copy_front.Tie as tie
+use Rattle.net.specs.Limits.{netWords}
 
 module _ {b : List ℕ} (s : Shaped b) where
-  room0 : ((0 ≤ 3) × (32 ≤ length b)) × ((word b 0 + word b 4 ≤ length b) × (4 + word b 4 / 4 ≤ 1684))
+  room0 : ((0 ≤ 3) × (32 ≤ length b)) × ((word b 0 + word b 4 ≤ length b) × (4 + word b 4 / 4 ≤ netWords))
   room0 = omega (arith, s .size-ge, s .start0, s .end, s .kinds-le)
 
-  room1 : ((1 ≤ 3) × (32 ≤ length b)) × ((word b 8 + word b 12 ≤ length b) × (20 + word b 12 / 4 ≤ 1684))
+  room1 : ((1 ≤ 3) × (32 ≤ length b)) × ((word b 8 + word b 12 ≤ length b) × (20 + word b 12 / 4 ≤ netWords))
   room1 = omega (arith, s .size-ge, s .start1, s .end, s .places-le)
 
-  room2 : ((2 ≤ 3) × (32 ≤ length b)) × ((word b 16 + word b 20 ≤ length b) × (84 + word b 20 / 4 ≤ 1684))
+  room2 : ((2 ≤ 3) × (32 ≤ length b)) × ((word b 16 + word b 20 ≤ length b) × (84 + word b 20 / 4 ≤ netWords))
   room2 = omega (arith, s .size-ge, s .start2, s .end, s .acts-le)
 
 word-at-requires : tie.Need-word-at-requires

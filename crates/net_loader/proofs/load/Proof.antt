@@ -8,6 +8,7 @@ use Rattle.net_loader.proofs.LoadLaws.{refused-words, loaded-length, ta
 use borrow.Author.Needs.{needs}
 use Rattle.net_loader.proofs.load.Statement.{statement}
 use Rattle.net_loader.proofs.load.Tie as tie
+use Rattle.net.specs.Limits.{netWords}
 
 count-words-requires : tie.Need-count-words-requires
 count-words-requires c κs = search needs
@@ -27,7 +28,7 @@ returns c =
 taken : (c : tie.Else1) → loadCode (c .before .before .before .before .before .before .before .args .s .now) ≡ 0
 taken c = sym (c .before .before .load-fresh .ensures .0) ∙ sym (c .before .number .ensures) ∙ c .if1 .left
 
-words-are : (c : tie.Else1) → c .before .before .load-fresh .last .1 .0 ≡ loadedWords (c .before .before .before .before .before .before .before .args .s .now) (replicate 1684 0)
+words-are : (c : tie.Else1) → c .before .before .load-fresh .last .1 .0 ≡ loadedWords (c .before .before .before .before .before .before .before .args .s .now) (replicate netWords 0)
 words-are c = c .before .before .load-fresh .ensures .1 (taken c)
 
 copy-all-requires : tie.Need-copy-all-requires

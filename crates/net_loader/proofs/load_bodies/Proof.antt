@@ -13,15 +13,16 @@ use Rattle.net_loader.proofs.LoadLaws.{shape, sized-1, front-refused, a
 use borrow.Author.Needs.{needs}
 use Rattle.net_loader.proofs.load_bodies.Statement.{statement}
 use Rattle.net_loader.proofs.load_bodies.Tie as tie
+use Rattle.net.specs.Limits.{netWords}
 
 -- the words after the first three bodies, and after the arcs
-front-is : (c : tie.After-copy-front) → c .copy-front .last .1 .0 ≡ frontOver (c .before .before .before .args .s .now) (replicate 1684 0)
+front-is : (c : tie.After-copy-front) → c .copy-front .last .1 .0 ≡ frontOver (c .before .before .before .args .s .now) (replicate netWords 0)
 front-is c = let s = c .before .before .before in c .copy-front .ensures ∙ ap (frontOver (s .args .s .now)) (s .pre .1)
 
-no-front : (c : tie.Else1) → first (frontTests (frontOver (c .before .before .before .before .before .before .args .s .now) (replicate 1684 0))) ≡ 0
+no-front : (c : tie.Else1) → first (frontTests (frontOver (c .before .before .before .before .before .before .args .s .now) (replicate netWords 0))) ≡ 0
 no-front c = subst (λ (w : _). first (frontTests w) ≡ 0) (front-is (c .before .before .before)) (sym (c .before .refuse-front .ensures) ∙ c .if1 .left)
 
-arcs-are : (c : tie.After-copy-body) → c .copy-body .last .1 .1 .0 ≡ sets (frontOver (c .before .before .before .before .before .before .before .before .args .s .now) (replicate 1684 0)) 148 (bodyOf (c .before .before .before .before .before .before .before .before .args .s .now) 3)
+arcs-are : (c : tie.After-copy-body) → c .copy-body .last .1 .1 .0 ≡ sets (frontOver (c .before .before .before .before .before .before .before .before .args .s .now) (replicate netWords 0)) 148 (bodyOf (c .before .before .before .before .before .before .before .before .args .s .now) 3)
 arcs-are c = subst (λ (w : _). c .copy-body .last .1 .1 .0 ≡ sets w 148 (bodyOf (c .before .before .before .before .before .before .before .before .args .s .now) 3)) (front-is (c .before .before .before .before .before)) (c .copy-body .ensures)
 
 -- the number of the tests on arcs is that of loading
@@ -40,7 +41,7 @@ returns : tie.Need-returns
 returns c =
     let s = c .before .before .before .before .before .before in
     let b = s .args .s .now in
-    let e : c .before .refuse-front .result ≡ first (frontTests (frontOver b (replicate 1684 0))) = subst (λ (w : _). c .before .refuse-front .result ≡ first (frontTests w)) (front-is (c .before .before .before)) (c .before .refuse-front .ensures) in
+    let e : c .before .refuse-front .result ≡ first (frontTests (frontOver b (replicate netWords 0))) = subst (λ (w : _). c .before .refuse-front .result ≡ first (frontTests w)) (front-is (c .before .before .before)) (c .before .refuse-front .ensures) in
     let r = e ∙ front-refused b (s .pre .0) (λ q. c .if1 .taken (e ∙ q)) in
     (r, λ z. absurd (c .if1 .taken (r ∙ z)))
 

@@ -9,7 +9,7 @@ use lib.ListN.{length}
 use Rattle.words.specs.Words.{wordsOf}
 use Rattle.words.proofs.Lists.{clash}
 use Rattle.net.specs.Held.{netIn}
-use Rattle.replay.proofs.RecordLaws.{ready-loaded}
+use Rattle.replay_objects.proofs.RecordLaws.{ready-loaded}
 use Rattle.program_events.specs.declared.Spot.{Spot}
 use Rattle.program_events.specs.declared.Outcome.{Outcome}
 use Rattle.program_events.specs.Follows.{Follows}

@@ -1,7 +1,7 @@
 -- The first of the counts. Assumes nothing.
 use mathlib.Core.Path.{_∙_}
 use native.Mathlib.Omega.{arith}
-use Rattle.replay.proofs.RecordLaws.{ready-contents}
+use Rattle.replay_objects.proofs.RecordLaws.{ready-contents}
 use Rattle.replay_counts.proofs.CountLaws.{closed-at, closed-le}
 use Rattle.replay_counts.proofs.closed.Statement.{statement}
 use Rattle.replay_counts.proofs.closed.Tie as tie

@@ -1,7 +1,7 @@
 -- The third of the counts. Assumes nothing.
 use mathlib.Core.Path.{_∙_}
 use native.Mathlib.Omega.{arith}
-use Rattle.replay.proofs.RecordLaws.{ready-contents}
+use Rattle.replay_objects.proofs.RecordLaws.{ready-contents}
 use Rattle.replay_counts.proofs.CountLaws.{closing-at, closing-few}
 use Rattle.replay_counts.proofs.closing.Statement.{statement}
 use Rattle.replay_counts.proofs.closing.Tie as tie

@@ -1,7 +1,7 @@
 -- The second of the counts. Assumes nothing.
 use mathlib.Core.Path.{_∙_}
 use native.Mathlib.Omega.{arith}
-use Rattle.replay.proofs.RecordLaws.{ready-contents}
+use Rattle.replay_objects.proofs.RecordLaws.{ready-contents}
 use Rattle.replay_counts.proofs.CountLaws.{events-at}
 use Rattle.replay_counts.proofs.events.Statement.{statement}
 use Rattle.replay_counts.proofs.events.Tie as tie

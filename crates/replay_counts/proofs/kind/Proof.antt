@@ -1,7 +1,7 @@
 -- The object's number in the register. Assumes nothing.
 use mathlib.Core.Path.{_∙_}
 use native.Mathlib.Omega.{arith}
-use Rattle.replay.proofs.RecordLaws.{ready-contents}
+use Rattle.replay_objects.proofs.RecordLaws.{ready-contents}
 use Rattle.replay_counts.proofs.CountLaws.{kind-at, kind-in}
 use borrow.Author.Needs.{needs}
 use Rattle.replay_counts.proofs.kind.Statement.{statement}

@@ -1,7 +1,7 @@
 -- The pair's number, row by row. Assumes nothing.
 use mathlib.Core.Path.{_∙_}
 use native.Mathlib.Omega.{arith}
-use Rattle.replay.proofs.RecordLaws.{ready-contents}
+use Rattle.replay_objects.proofs.RecordLaws.{ready-contents}
 use Rattle.replay_counts.proofs.CountLaws.{pair-at, pair-few}
 use Rattle.replay_counts.proofs.pair.Statement.{statement}
 use Rattle.replay_counts.proofs.pair.Tie as tie

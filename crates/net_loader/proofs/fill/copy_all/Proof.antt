@@ -8,12 +8,13 @@ use borrow.Author.Needs.{needs}
 use Rattle.net.proofs.Stores.{store-more, store-end}
 use Rattle.net_loader.proofs.fill.copy_all.Statement.{statement}
 use Rattle.net_loader.proofs.fill.copy_all.Tie as tie
+use Rattle.net.specs.Limits.{netWords}
 
 abbrev Inv-loop : tie.InvT-loop
-Inv-loop w t₀ i₀ t i = (i ≤ 1684) × (sets t i (drop i w) ≡ sets t₀ 0 w)
+Inv-loop w t₀ i₀ t i = (i ≤ netWords) × (sets t i (drop i w) ≡ sets t₀ 0 w)
 
 abbrev μ-loop : tie.MeasureT-loop
-μ-loop w t₀ i₀ t i = 1684 - i
+μ-loop w t₀ i₀ t i = netWords - i
 
 loop-holds : tie.Need-loop-holds Inv-loop μ-loop
 loop-holds c = (omega arith, refl)

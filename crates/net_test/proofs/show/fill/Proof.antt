@@ -5,12 +5,13 @@ use lib.ListN.{length}
 use borrow.Author.Needs.{needs}
 use Rattle.net_test.proofs.show.fill.Statement.{statement}
 use Rattle.net_test.proofs.show.fill.Tie as tie
+use Rattle.net.specs.Limits.{netWords}
 
 abbrev Inv-loop : tie.InvT-loop
-Inv-loop t₀ i₀ t i = (i ≤ 1684) × (length t ≡ 1684)
+Inv-loop t₀ i₀ t i = (i ≤ netWords) × (length t ≡ netWords)
 
 abbrev μ-loop : tie.MeasureT-loop
-μ-loop t₀ i₀ t i = 1684 - i
+μ-loop t₀ i₀ t i = netWords - i
 
 loop-holds : tie.Need-loop-holds Inv-loop μ-loop
 loop-holds c = search needs

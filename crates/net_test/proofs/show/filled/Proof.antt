@@ -3,12 +3,13 @@ use Prim.Native.Nat.{_≤_, _-_}
 use borrow.Author.Needs.{needs}
 use Rattle.net_test.proofs.show.filled.Statement.{statement}
 use Rattle.net_test.proofs.show.filled.Tie as tie
+use Rattle.net.specs.Limits.{netWords}
 
 abbrev Inv-loop : tie.InvT-loop
-Inv-loop t i₀ i = i ≤ 1684
+Inv-loop t i₀ i = i ≤ netWords
 
 abbrev μ-loop : tie.MeasureT-loop
-μ-loop t i₀ i = 1684 - i
+μ-loop t i₀ i = netWords - i
 
 loop-holds : tie.Need-loop-holds Inv-loop μ-loop
 loop-holds c = search needs

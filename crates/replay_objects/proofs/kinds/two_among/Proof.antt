@@ -6,9 +6,9 @@ use native.Mathlib.Omega.{arith}
 use lib.ListN.{getD}
 use borrow.Author.Count.{below-more}
 use borrow.Author.Needs.{needs}
-use Rattle.replay.proofs.PairLaws.{Apart, pair-found, pair-none}
-use Rattle.replay.proofs.kinds.two_among.Statement.{statement}
-use Rattle.replay.proofs.kinds.two_among.Tie as tie
+use Rattle.replay_objects.proofs.PairLaws.{Apart, pair-found, pair-none}
+use Rattle.replay_objects.proofs.kinds.two_among.Statement.{statement}
+use Rattle.replay_objects.proofs.kinds.two_among.Tie as tie
 
 abbrev Inv-loop : tie.InvT-loop
 Inv-loop kinds m found₀ i j₀ found j = (i < m) × (j ≤ i) × (found ≡ false) × Apart kinds i × ((b : ℕ) → b < j → getD kinds i 0 ≡ getD kinds b 0 → ⊥)

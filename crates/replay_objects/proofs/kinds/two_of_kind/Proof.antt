@@ -1,9 +1,9 @@
 -- Each number of objects by the loops of that length; fewer than two have no pair. Assumes nothing.
 use native.Mathlib.Omega.{arith}
 use borrow.Author.Needs.{needs}
-use Rattle.replay.proofs.PairLaws.{pair-none, among}
-use Rattle.replay.proofs.kinds.two_of_kind.Statement.{statement}
-use Rattle.replay.proofs.kinds.two_of_kind.Tie as tie
+use Rattle.replay_objects.proofs.PairLaws.{pair-none, among}
+use Rattle.replay_objects.proofs.kinds.two_of_kind.Statement.{statement}
+use Rattle.replay_objects.proofs.kinds.two_of_kind.Tie as tie
 
 returns : tie.Need-returns
 returns c = let s = c .before in pair-none (s .args .kinds .now) (s .args .n) (s .pre .1) (λ a h b l e. omega (arith, c .if1 .taken))

@@ -1,5 +1,6 @@
 // The refusals 11 and 12 of a register's bytes, which starting, taking up and opening a trail file share.
 
+use net::NetWords;
 use net_lookup::kinds;
 use words::get_word;
 use words::wide;
@@ -9,10 +10,10 @@ ghost use lib.Dec.{leb};
 ghost use Rattle.words.specs.Lists.{any};
 ghost use Rattle.words.specs.Words.{wordsOf};
 ghost use Rattle.net.specs.Held.{netIn, Held};
 ghost use Rattle.replay.specs.Plain.{registerCode};
 
 // 12: an object of unknown kind.
-fn unknown_kind(register: &[u8], t: &[u32; 1684]) -> bool
+fn unknown_kind(register: &[u8], t: &NetWords) -> bool
     requires { ⌜ Held (now t) ⌝ }
     ensures { λ r. ⌜ r ≡ any (λ (k : ℕ). leb (netIn (now (t .entry)) .kinds) k) (wordsOf (now (register .entry))) ⌝ }
 {
@@ -29,7 +30,7 @@ fn unknown_kind(register: &[u8], t: &[u32; 1684]) -> bool
 }
 
 // 11, 12 or 0, by a register's bytes.
-pub fn register_refusal(register: &[u8], t: &[u32; 1684]) -> u32
+pub fn register_refusal(register: &[u8], t: &NetWords) -> u32
     requires { ⌜ Held (now t) ⌝ }
     ensures { λ r. ⌜ r ≡ registerCode (netIn (now (t .entry))) (wordsOf (now (register .entry))) ⌝ }
 {

@@ -11,15 +11,16 @@ use Rattle.words.proofs.Words.{length-words, bytes-of-words}
 use Rattle.net.specs.Net.{Net, Loaded}
 use Rattle.net.specs.Held.{netIn}
 use Rattle.net.proofs.HeldLaws.{held-loaded}
-use Rattle.replay.specs.declared.layout.Layout.{Layout}
+use Rattle.replay_objects.specs.declared.layout.Layout.{Layout}
 use Rattle.replay.specs.State.{State, withPlaces, withClosed, withEvents, withClosing, withFired, withJumps, withPairs}
 use Rattle.replay.specs.Sound.{Sound}
 use Rattle.replay.specs.Record.{interleave, counts, encode, recordWords, tableIn, stateIn}
 use Rattle.replay.specs.Calls.{netAt, stateAt}
-use Rattle.replay.specs.Offsets.{layoutOf}
+use Rattle.replay_objects.specs.Offsets.{layoutOf}
 use Rattle.replay.specs.Ready.{Ready}
 use Rattle.replay.proofs.Interleave.{length-interleave, interleave-even, interleave-odd, interleave-set-even, interleave-set-odd}
 use Rattle.replay.proofs.Encode.{Laid, intact-laid, counts-size, words-encode, bytes-encode}
+use Rattle.replay.specs.Limits.{maxWords}
 
 -- l is the layout of a record of a table and the state d, of the net N: how large the parts are, and what follows what
 pub record Placed (N : Net) (table : List ℕ) (l : Layout) (d : State) : Type 0 where
@@ -152,7 +153,7 @@ module _ (N : Net) (table : List ℕ) (l : Layout) (d : State) (P : Placed N tab
   pub record-size : length (recordWords table d) ≡ l .jumps + l .places * l .places
   record-size = omega (arith, four-size table (d .kinds) (d .places) (counts d) (d .pairs), counts-length, P .register-at, P .positions-at, P .counts-at, P .jumps-at, P .kinds-size, P .places-size, P .pairs-size)
 
-  pub record-few : length (recordWords table d) ≤ 7461
+  pub record-few : length (recordWords table d) ≤ maxWords
   record-few = omega (arith, record-size, mul-le-mul (P .places-few) (P .places-few), P .register-at, P .positions-at, P .counts-at, P .jumps-at, P .table-few, P .objects-few, P .acts-few)
 
   -- reading

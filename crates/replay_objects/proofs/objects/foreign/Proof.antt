@@ -1,8 +1,8 @@
 -- Each return by the test of the kind. Assumes nothing.
 use native.Mathlib.Omega.{arith}
 use borrow.Author.Needs.{needs}
-use Rattle.replay.proofs.objects.foreign.Statement.{statement}
-use Rattle.replay.proofs.objects.foreign.Tie as tie
+use Rattle.replay_objects.proofs.objects.foreign.Statement.{statement}
+use Rattle.replay_objects.proofs.objects.foreign.Tie as tie
 
 takes-kind-requires : tie.Need-takes-kind-requires
 takes-kind-requires c κs = search needs

@@ -11,8 +11,8 @@ use Rattle.words.specs.Words.{wordsOf}
 use Rattle.words.proofs.Words.{length-words}
 use Rattle.net.specs.Held.{netIn}
 use Rattle.net.proofs.Scan.{any-turn, any-found, any-end}
-use Rattle.replay.proofs.register.unknown_kind.Statement.{statement}
-use Rattle.replay.proofs.register.unknown_kind.Tie as tie
+use Rattle.replay_objects.proofs.register.unknown_kind.Statement.{statement}
+use Rattle.replay_objects.proofs.register.unknown_kind.Tie as tie
 
 abbrev Inv-loop : tie.InvT-loop
 Inv-loop register t n known i₀ i =

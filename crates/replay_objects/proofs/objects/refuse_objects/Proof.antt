@@ -12,11 +12,11 @@ use Rattle.words.specs.Words.{wordsOf}
 use Rattle.words.proofs.Refusals.{first-then, first-stays}
 use Rattle.words.proofs.Words.{length-words}
 use Rattle.net.specs.Held.{netIn}
 use Rattle.replay.specs.Plain.{kindsOf, knownTests, sameKindTests, objectTests}
-use Rattle.replay.proofs.ObjectLaws.{kinds-length, kinds-front}
+use Rattle.replay_objects.proofs.ObjectLaws.{kinds-length, kinds-front}
 use borrow.Author.Needs.{needs}
-use Rattle.replay.proofs.objects.refuse_objects.Statement.{statement}
-use Rattle.replay.proofs.objects.refuse_objects.Tie as tie
+use Rattle.replay_objects.proofs.objects.refuse_objects.Statement.{statement}
+use Rattle.replay_objects.proofs.objects.refuse_objects.Tie as tie
 
 -- the objects' kinds are stored
 stored : (c : tie.Else1) → c .before .take-kinds .last .1 .1 .1 .1 .0 ≡ sets (replicate 8 0) 0 (kindsOf (wordsOf (c .before .before .before .before .before .args .register .now)) (wordsOf (c .before .before .before .before .before .args .objs .now)))

@@ -8,8 +8,8 @@ use borrow.Author.Tests.{lt-ltb, le-ltb, eq-eqb, ne-eqb}
 use Rattle.words.specs.Words.{wordsOf}
 use Rattle.words.proofs.Words.{length-words}
 use borrow.Author.Needs.{needs}
-use Rattle.replay.proofs.register.register_refusal.Statement.{statement}
-use Rattle.replay.proofs.register.register_refusal.Tie as tie
+use Rattle.replay_objects.proofs.register.register_refusal.Statement.{statement}
+use Rattle.replay_objects.proofs.register.register_refusal.Tie as tie
 
 -- the tests passed
 some : (c : tie.Else1) → eqb (length (wordsOf (c .before .before .args .register .now))) 0 ≡ false

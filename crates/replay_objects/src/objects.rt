@@ -1,6 +1,7 @@
 // The tests 25 to 27 of an event's objects, which an event on a trail and an event in a trail file share.
 
 use crate::kinds::two_of_kind;
+use net::NetWords;
 use net_lookup::takes_kind;
 use words::get_word;
 use words::wide;
@@ -14,11 +15,11 @@ ghost use Rattle.words.specs.Refusals.{first};
 ghost use Rattle.words.specs.Words.{wordsOf};
 ghost use Rattle.net.specs.Held.{netIn, Held};
 ghost use Rattle.net.specs.Net.{takes};
 ghost use Rattle.replay.specs.Plain.{kindsOf, knownTests, objectTests};
 ghost use Rattle.replay.specs.Ready.{KnownKinds};
 
 // 1 where the activity does not take kind k, else 0.
-fn foreign(t: &[u32; 1684], act: usize, k: usize) -> u32
+fn foreign(t: &NetWords, act: usize, k: usize) -> u32
     requires { ⌜ Held (now t) ⌝ }
     requires { ⌜ (act < netIn (now t) .acts) × (k < netIn (now t) .kinds) ⌝ }
     ensures { λ r. ⌜ (r ≡ one (not (takes (netIn (now (t .entry))) act k))) × (r ≤ 1) ⌝ }
@@ -30,13 +31,7 @@ fn foreign(t: &[u32; 1684], act: usize, k: usize) -> u32
 }
 
 // 25, 26 or 0, by the objects, four bytes each: 25 of any of them before 26 of any. Where it is 0, their kinds are put into `kinds`.
-fn take_kinds(
-    objs: &[u8],
-    act: usize,
-    register: &[u8],
-    t: &[u32; 1684],
-    kinds: &mut [u32; 8],
-) -> u32
+fn take_kinds(objs: &[u8], act: usize, register: &[u8], t: &NetWords, kinds: &mut [u32; 8]) -> u32
     requires { ⌜ Held (now t) ⌝ }
     requires { ⌜ KnownKinds (netIn (now t)) (wordsOf (now register)) ⌝ }
     requires { ⌜ (length (wordsOf (now objs)) ≤ 8) × (act < netIn (now t) .acts) ⌝ }
@@ -64,7 +59,7 @@ fn take_kinds(
 }
 
 // 25, 26, 27 or 0, by an event's objects and the register, four bytes each.
-pub fn refuse_objects(objs: &[u8], act: usize, register: &[u8], t: &[u32; 1684]) -> u32
+pub fn refuse_objects(objs: &[u8], act: usize, register: &[u8], t: &NetWords) -> u32
     requires { ⌜ Held (now t) ⌝ }
     requires { ⌜ KnownKinds (netIn (now t)) (wordsOf (now register)) ⌝ }
     requires { ⌜ (length (wordsOf (now objs)) ≤ 8) × (act < netIn (now t) .acts) ⌝ }

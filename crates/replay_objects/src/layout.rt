@@ -1,11 +1,12 @@
 // Where the parts of a desk record stand, by the record's own contents.
 
+use net::NetWords;
 ghost use mathlib.Core.Path.{_≡_};
 ghost use Prim.Native.Nat.{_+_, _/_, _≤_};
 ghost use lib.ListN.{length};
 ghost use Rattle.words.specs.Words.{word};
 ghost use Rattle.net.specs.Held.{netIn, Held};
-ghost use Rattle.replay.specs.Offsets.{layoutOf};
+ghost use Rattle.replay_objects.specs.Offsets.{layoutOf};
 
 // Where the bodies behind the table start, counted in four-byte numbers, and how many objects and places there are.
 pub struct Layout {
@@ -26,7 +27,7 @@ fn quarter(rec: &[u8], at: usize) -> usize
 }
 
 // The layout that a record's contents give, with the number of places of its net.
-pub fn read_layout(rec: &[u8], t: &[u32; 1684]) -> Layout
+pub fn read_layout(rec: &[u8], t: &NetWords) -> Layout
     requires { ⌜ Held (now t) ⌝ }
     requires { ⌜ 40 ≤ length (now rec) ⌝ }
     ensures { λ r. ⌜ r ≡ layoutOf (netIn (now (t .entry))) (now (rec .entry)) ⌝ }

@@ -10,10 +10,10 @@ use borrow.Author.Tests.{eq-eqb, ne-eqb}
 use Rattle.words.specs.Words.{wordsOf}
 use Rattle.words.proofs.Words.{length-words}
 use Rattle.net.specs.Held.{netIn}
 use Rattle.replay.specs.Plain.{kindsOf}
-use Rattle.replay.proofs.ObjectLaws.{next, foreignCode, foreign-more, kindsLeft, left-unknown, left-known, left-none, store-one}
-use Rattle.replay.proofs.objects.take_kinds.Statement.{statement}
-use Rattle.replay.proofs.objects.take_kinds.Tie as tie
+use Rattle.replay_objects.proofs.ObjectLaws.{next, foreignCode, foreign-more, kindsLeft, left-unknown, left-known, left-none, store-one}
+use Rattle.replay_objects.proofs.objects.take_kinds.Statement.{statement}
+use Rattle.replay_objects.proofs.objects.take_kinds.Tie as tie
 
 abbrev Inv-loop : tie.InvT-loop
 Inv-loop objs act register t kinds₀ size n others₀ i₀ kinds others i =

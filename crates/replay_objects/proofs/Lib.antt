@@ -1,0 +1,3 @@
+mod ObjectLaws
+mod PairLaws
+pub mod RecordLaws
