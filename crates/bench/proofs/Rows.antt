@@ -9,11 +9,10 @@ use lib.Seq.{getD-drop, drop-drop}
 use borrow.Author.Tests.{le-leb, lt-leb, eq-eqb, ne-eqb}
 use Rattle.words.specs.Words.{wordsOf}
 use Rattle.words.proofs.Words.{words-take, words-drop}
-use Rattle.replay.specs.Plain.{Ask}
+use Rattle.replay.specs.Plain.{Ask, askEvent}
 use Rattle.replay.specs.Calls.{askCode, askBytes}
 use Rattle.replay.specs.Ready.{Ready}
 use Rattle.replay.proofs.Calls.{ready-asked}
-use Rattle.replay_event.specs.Answers.{askEvent}
 use Rattle.bench.specs.Bench.{rowSize, rowAt, rowsOf, eventsIn, accepted, carried}
 
 -- the bytes of the objects of the row at number `at`, and its event

@@ -5,9 +5,8 @@ use lib.ListN.{length, getD, take, drop}
 use lib.Dec.{eqb, leb}
 use Rattle.words.specs.Lists.{pick}
 use Rattle.words.specs.Words.{wordsOf}
-use Rattle.replay.specs.Plain.{Ask}
+use Rattle.replay.specs.Plain.{Ask, askEvent}
 use Rattle.replay.specs.Calls.{askCode, askBytes}
-use Rattle.replay_event.specs.Answers.{askEvent}
 use Rattle.client_check.specs.OnTrail.{onTrail, leftBy}
 
 -- the row of an event at the front of the numbers: activity, count, objects

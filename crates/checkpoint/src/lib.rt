@@ -33,7 +33,7 @@ pub enum Saved {
 }
 
 // The number of an answer to checking a record or taking it up.
-pub fn number(r: RestoreAnswer) -> u32
+pub fn code(r: RestoreAnswer) -> u32
     ensures { λ n. ⌜ n ≡ restoreAnswerCode r ⌝ }
 {
     match r {
@@ -67,7 +67,7 @@ pub fn second(r: RestoreAnswer) -> u32
 }
 
 // The number of an answer to putting a record down.
-pub fn saved_number(r: Saved) -> u32
+pub fn saved_code(r: Saved) -> u32
     ensures { λ n. ⌜ n ≡ savedCode r ⌝ }
 {
     match r {

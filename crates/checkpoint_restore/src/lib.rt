@@ -40,7 +40,7 @@ fn check_table(rec: &[u8], t: &mut NetWords) -> RestoreAnswer
     ensures { λ _. ⌜ (restoreCode (now (rec .entry)) ≡ 0 → Opened (now (rec .entry)) (now (t .exit))) ⌝ }
 {
     let end = 40 + wide(words::word_at(rec, 4));
-    let n = net::number(net_loader::load_fresh(&rec[40..end], t));
+    let n = net::code(net_loader::load_fresh(&rec[40..end], t));
     if n != 0 {
         return RestoreAnswer::Table(n);
     }
@@ -100,7 +100,7 @@ pub fn restore(rec: &[u8], trail: &mut [u8]) -> RestoreAnswer
 {
     let mut t = [0u32; NET_WORDS];
     let answer = check(rec, &mut t);
-    if checkpoint::number(answer) != 0 {
+    if checkpoint::code(answer) != 0 {
         return answer;
     }
     put_trail(rec, trail)

@@ -18,13 +18,12 @@ use Rattle.net.specs.Net.{Net}
 use Rattle.net.specs.Table.{netOf, loadCode}
 use Rattle.net.proofs.Promise.{promise}
 use Rattle.replay.specs.Plain as P
-use Rattle.replay.specs.Plain.{Ask, Plain, start, ask, run, registerCode}
+use Rattle.replay.specs.Plain.{Ask, Plain, start, ask, run, registerCode, askEvent}
 use Rattle.replay.specs.State.{stateOf}
 use Rattle.replay.specs.Sound.{Sound}
 use Rattle.replay.specs.Calls.{askCode, askBytes, startRecord}
 use Rattle.replay.proofs.Records.{code-at, step-at, sound-at}
 use Rattle.replay.proofs.Theorems.{sound-reached}
-use Rattle.replay_event.specs.Answers.{askEvent}
 use Rattle.replay_close.specs.Answers.{askClose}
 use Rattle.checkpoint.specs.Restore.{restoreTests, restoreCode}
 use Rattle.checkpoint.specs.Take.{takeCode, takeBytes}

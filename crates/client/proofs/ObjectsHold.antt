@@ -15,9 +15,8 @@ use Rattle.words.proofs.Words.{length-words}
 use Rattle.net.specs.Net.{Loaded}
 use Rattle.net.proofs.Promise.{promise}
 use Rattle.replay.specs.Record.{tableIn}
-use Rattle.replay.specs.Plain.{Ask}
+use Rattle.replay.specs.Plain.{Ask, askEvent}
 use Rattle.replay.specs.Calls.{netAt, stateAt, askCode, askBytes}
-use Rattle.replay_event.specs.Answers.{askEvent}
 use Rattle.checkpoint.specs.Restore.{restoreCode}
 use Rattle.checkpoint.proofs.Restored.{restored-loads}
 use Rattle.client_answers.specs.Answers.{packed}

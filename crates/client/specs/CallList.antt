@@ -11,9 +11,8 @@ use lib.Dec.{eqb}
 use Rattle.words.specs.Lists.{pick, All}
 use Rattle.words.specs.Words.{wordsOf}
 use Rattle.net.specs.Table.{netOf}
-use Rattle.replay.specs.Plain.{Plain, start, run}
+use Rattle.replay.specs.Plain.{Plain, start, run, askEvent}
 use Rattle.replay.specs.Plain as P
-use Rattle.replay_event.specs.Answers.{askEvent}
 use Rattle.replay_close.specs.Answers.{askClose}
 use Rattle.checkpoint.specs.Take.{takeBytes}
 use Rattle.checkpoint.specs.Calls.{asks, saveCode, asked}

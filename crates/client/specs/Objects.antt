@@ -7,9 +7,8 @@ use lib.ListN.{length}
 use lib.Dec.{leb}
 use Rattle.words.specs.Refusals.{first}
 use Rattle.words.specs.Words.{wordsOf}
-use Rattle.replay.specs.Plain.{trailTests}
+use Rattle.replay.specs.Plain.{trailTests, askEvent}
 use Rattle.replay.specs.Calls.{netAt, stateAt}
-use Rattle.replay_event.specs.Answers.{askEvent}
 use Rattle.client_answers.specs.Answers.{packed}
 use Rattle.client_check.specs.OnTrail.{onTrail}
 use Rattle.client_check.specs.Objects.{objectsIn}

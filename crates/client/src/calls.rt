@@ -14,13 +14,13 @@ ghost use Rattle.net.specs.Held.{Tabled};
 ghost use Rattle.replay.specs.Calls.{askCode, askBytes};
 ghost use Rattle.replay.specs.Ready.{Ready};
 ghost use Rattle.replay_start.specs.Startable.{Startable};
-ghost use Rattle.replay_event.specs.Answers.{askEvent};
 ghost use Rattle.replay_close.specs.Answers.{askClose};
 ghost use Rattle.checkpoint.specs.Calls.{saveCode, saveBytes};
 ghost use Rattle.client_answers.specs.Answers.{packed, wrote};
 ghost use Rattle.client_check.specs.Objects.{objectsIn};
 ghost use Rattle.client.specs.Client.{startAnswer, startLeaves};
 ghost use Rattle.replay.specs.Limits.{maxRecord};
+ghost use Rattle.replay.specs.Plain.{askEvent};
 
 // An event whose objects are the numbers of the rows.
 fn put_rows(trail: &mut [u8], t: &NetWords, activity: u32, rows: &[u8]) -> u64
@@ -56,7 +56,7 @@ pub fn put_save(trail: &[u8], lent: &mut [u8]) -> u64
     requires { ⌜ length (now trail) ≤ maxRecord ⌝ }
     ensures { λ r. ⌜ (r ≡ wrote (saveCode (now (trail .entry)) (length (now (lent .entry)))) (length (now (trail .entry)))) × (now (lent .exit) ≡ saveBytes (now (trail .entry)) (now (lent .entry))) ⌝ }
 {
-    let code = checkpoint::saved_number(checkpoint_restore::save(trail, lent));
+    let code = checkpoint::saved_code(checkpoint_restore::save(trail, lent));
     if code != 0 {
         return pack(code, 0);
     }

@@ -14,7 +14,6 @@ use net::NET_WORDS;
 ghost use mathlib.Core.Path.{_≡_};
 ghost use mathlib.Core.List.{[]};
 ghost use lib.ListN.{length};
-ghost use Rattle.replay_event.specs.Answers.{askEvent};
 ghost use Rattle.replay_close.specs.Answers.{askClose};
 ghost use Rattle.replay_counts.specs.Reads.{placeTests, actTests, pairTests};
 ghost use Rattle.checkpoint.specs.Take.{takeBytes};
@@ -23,6 +22,7 @@ ghost use Rattle.client_check.specs.Objects.{objectsIn};
 ghost use Rattle.client_counts.specs.Numbers.{trailNumbers, placeNumbers, actNumbers, pairNumbers};
 ghost use Rattle.client.specs.Client.{loadAnswer, startAnswer, startLeaves, askAnswer, askLeaves, restoreAnswer, saveAnswer, saveLeaves};
 ghost use Rattle.client_write.specs.Writing.{writeAnswer, writeLeaves};
+ghost use Rattle.replay.specs.Plain.{askEvent};
 
 mod calls;
 
@@ -32,7 +32,7 @@ pub extern "C" fn conform_load(table: &[u8]) -> u64
     ensures { λ r. ⌜ r ≡ loadAnswer (now (table .entry)) ⌝ }
 {
     let mut t = [0u32; NET_WORDS];
-    pack(net::number(net_loader::load_fresh(table, &mut t)), 0)
+    pack(net::code(net_loader::load_fresh(table, &mut t)), 0)
 }
 
 // Starts a trail: 1 to 9 of the table, 11 and 12 of the objects' kinds, and 61; or its record in front of the lent bytes.
@@ -42,7 +42,7 @@ pub extern "C" fn conform_start(table: &[u8], objects: &[u8], trail: &mut [u8]) 
     ensures { λ _. ⌜ now (trail .exit) ≡ startLeaves (now (table .entry)) (now (objects .entry)) (now (trail .entry)) ⌝ }
 {
     let mut t = [0u32; NET_WORDS];
-    let refused = net::number(net_loader::load_fresh(table, &mut t));
+    let refused = net::code(net_loader::load_fresh(table, &mut t));
     if refused != 0 {
         return pack(refused, 0);
     }
@@ -84,7 +84,7 @@ pub extern "C" fn conform_restore(saved: &[u8], trail: &mut [u8]) -> u64
     ensures { λ _. ⌜ now (trail .exit) ≡ takeBytes (now (saved .entry)) (now (trail .entry)) ⌝ }
 {
     let r = checkpoint_restore::restore(saved, trail);
-    let refused = checkpoint::number(r);
+    let refused = checkpoint::code(r);
     if refused != 0 {
         return pack(refused, checkpoint::second(r));
     }

@@ -4,8 +4,8 @@
 ghost use mathlib.Core.Path.{_≡_};
 ghost use Prim.Native.Nat.{_≤_};
 ghost use Rattle.replay_start.specs.StartAnswers.{startAnswerCode};
-ghost use Rattle.replay_event.specs.Answers.{eventCode};
-ghost use Rattle.replay_close.specs.Answers.{closeCode};
+ghost use Rattle.replay_event.specs.Answers.{eventAnswerCode};
+ghost use Rattle.replay_close.specs.Answers.{closeAnswerCode};
 ghost use Rattle.lines.specs.Answer as lines;
 ghost use Rattle.client_answers.specs.Answers.{packed};
 
@@ -27,7 +27,7 @@ pub fn start_code(r: replay_start::StartAnswer) -> u32
 }
 
 pub fn event_code(r: replay_event::event::EventAnswer) -> u32
-    ensures { λ n. ⌜ n ≡ eventCode r ⌝ }
+    ensures { λ n. ⌜ n ≡ eventAnswerCode r ⌝ }
 {
     match r {
         replay_event::event::EventAnswer::Taken => 0,
@@ -42,7 +42,7 @@ pub fn event_code(r: replay_event::event::EventAnswer) -> u32
 }
 
 pub fn close_code(r: replay_close::CloseAnswer) -> u32
-    ensures { λ n. ⌜ n ≡ closeCode r ⌝ }
+    ensures { λ n. ⌜ n ≡ closeAnswerCode r ⌝ }
 {
     match r {
         replay_close::CloseAnswer::Taken => 0,
@@ -51,7 +51,7 @@ pub fn close_code(r: replay_close::CloseAnswer) -> u32
 }
 
 fn line_code(r: lines::LineAnswer) -> u32
-    ensures { λ n. ⌜ n ≡ lines.codeOf r ⌝ }
+    ensures { λ n. ⌜ n ≡ lines.lineAnswerCode r ⌝ }
 {
     match r {
         lines::LineAnswer::Written(_) => 0,
@@ -64,7 +64,7 @@ fn line_code(r: lines::LineAnswer) -> u32
 // The answer to writing a line or its numbers: how many bytes are written where it is taken.
 pub fn written(r: lines::LineAnswer) -> u64
     requires { ⌜ lines.sizeOf r ≤ 113 ⌝ }
-    ensures { λ n. ⌜ n ≡ packed (lines.codeOf r) (lines.sizeOf r) ⌝ }
+    ensures { λ n. ⌜ n ≡ packed (lines.lineAnswerCode r) (lines.sizeOf r) ⌝ }
 {
     pack(line_code(r), lines::size(r) as u32)
 }

@@ -1,6 +1,6 @@
 // The check of a trail that is lent.
 
-use checkpoint::number;
+use checkpoint::code;
 use checkpoint::second;
 use client_answers::pack;
 use net::NetWords;
@@ -15,5 +15,5 @@ pub fn checked(trail: &[u8], t: &mut NetWords) -> u64
     ensures { λ r. ⌜ Checked (now (trail .entry)) (now (t .exit)) r ⌝ }
 {
     let r = checkpoint_restore::check(trail, t);
-    pack(number(r), second(r))
+    pack(code(r), second(r))
 }

@@ -182,7 +182,7 @@ fn decide(table: &[u8], t: &mut NetWords, rec: &mut [u8]) -> Ending
     ensures text { λ r. ⌜ FromFile (now (table .entry)) [] 0 r (now (rec .exit)) ⌝ }
     ensures printable { λ r. ⌜ Printable (now (t .exit)) (now (rec .exit)) r ⌝ }
 {
-    let number = net::number(net_loader::load_fresh(table, t));
+    let number = net::code(net_loader::load_fresh(table, t));
     if number != 0 {
         return Ending::Refused {
             code: number,

@@ -14,7 +14,7 @@ use Rattle.words.specs.Refusals.{first}
 use Rattle.words.proofs.Refusals.{first-then, first-stays}
 use Rattle.text.specs.Fields.{wordText, fieldText}
 use Rattle.lines.specs.Lines.{fieldsText, lineOf}
-use Rattle.lines.specs.Answer.{codeOf, sizeOf, lineCode, Writes}
+use Rattle.lines.specs.Answer.{lineAnswerCode, sizeOf, lineCode, Writes}
 use Rattle.text.specs.declared.field.Word.{Word}
 use Rattle.text.specs.declared.field.Field.{Field}
 use Rattle.text.specs.declared.field.Field.the-variants.{Nothing}
@@ -56,7 +56,7 @@ module _ (line lent : List ℕ) where
       let t = le-ltb (length lent) (length line) h in
       record { code = rw t; size = rw t e; few = m; bytes = rw t l }
 
-  pub refused : (tests : List (Bool × ℕ)) (r : LineAnswer) → codeOf r ≡ first tests → 0 < codeOf r → sizeOf r ≡ 0
+  pub refused : (tests : List (Bool × ℕ)) (r : LineAnswer) → lineAnswerCode r ≡ first tests → 0 < lineAnswerCode r → sizeOf r ≡ 0
       → Writes tests line lent r lent
   unfolding lineCode
   refused tests r e p s =

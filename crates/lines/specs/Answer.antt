@@ -11,11 +11,11 @@ use Rattle.lines.specs.declared.LineAnswer.{LineAnswer}
 use Rattle.lines.specs.declared.LineAnswer.the-variants.{Written, UnknownPlace, UnknownActivity, NoRoom}
 
 -- the number of each answer, 0 where the line is written
-abbrev pub codeOf : LineAnswer → ℕ
-codeOf (Written n) = 0
-codeOf UnknownPlace = 51
-codeOf UnknownActivity = 52
-codeOf NoRoom = 61
+abbrev pub lineAnswerCode : LineAnswer → ℕ
+lineAnswerCode (Written n) = 0
+lineAnswerCode UnknownPlace = 51
+lineAnswerCode UnknownActivity = 52
+lineAnswerCode NoRoom = 61
 
 -- how many bytes were written
 abbrev pub sizeOf : LineAnswer → ℕ
@@ -31,7 +31,7 @@ lineCode tests line lent = first (tests ++ ((ltb (length lent) (length line), 61
 -- writing the line into the bytes `lent`, behind the tests, is answered r and leaves `left`: the line and the other bytes
 -- as they were, and on a refusal all bytes as they were; no line has more than 113 bytes, whatever its numbers
 pub record Writes (tests : List (Bool × ℕ)) (line lent : List ℕ) (r : LineAnswer) (left : List ℕ) : Type 0 where
-  pub code : codeOf r ≡ lineCode tests line lent
+  pub code : lineAnswerCode r ≡ lineCode tests line lent
   pub size : sizeOf r ≡ pick (eqb (lineCode tests line lent) 0) (length line) 0
   pub few : sizeOf r ≤ 113
   pub bytes : left ≡ pick (eqb (lineCode tests line lent) 0) (over line lent) lent

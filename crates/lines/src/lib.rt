@@ -12,7 +12,7 @@ ghost use Rattle.text.specs.declared.field.Field.the-variants.{Number, Fitness}
 ghost use Rattle.lines.specs.Lines.{fieldsText, lineOf, trailLine, placeLine, actLine, jumpLine, refusedLine};
 ghost use Rattle.lines.specs.Answer.{sizeOf, Writes};
 
-// The answer to writing a line. `codeOf` gives document 01's number.
+// The answer to writing a line. `lineAnswerCode` gives document 01's number.
 pub enum LineAnswer {
     // The line is in the lent part, and has this many bytes.
     Written(usize),

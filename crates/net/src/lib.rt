@@ -3,7 +3,7 @@
 // and `Loaded` promise, and never a table's bytes or the words' places.
 
 ghost use mathlib.Core.Path.{_≡_};
-ghost use Rattle.net.specs.Answer.{codeOf};
+ghost use Rattle.net.specs.Answer.{loadAnswerCode};
 
 // Bytes of the longest route table.
 pub const MAX_TABLE: usize = 4704;
@@ -29,7 +29,7 @@ pub const OUTPUTS: usize = 149;
 
 pub const INDEX: usize = 1172;
 
-// The answer to loading a table. `codeOf` gives document 01's number.
+// The answer to loading a table. `loadAnswerCode` gives document 01's number.
 pub enum LoadAnswer {
     Taken,
     // 1: length under 32 or over 4,704.
@@ -53,8 +53,8 @@ pub enum LoadAnswer {
 }
 
 // The number of an answer.
-pub fn number(r: LoadAnswer) -> u32
-    ensures { λ n. ⌜ n ≡ codeOf r ⌝ }
+pub fn code(r: LoadAnswer) -> u32
+    ensures { λ n. ⌜ n ≡ loadAnswerCode r ⌝ }
 {
     match r {
         LoadAnswer::Taken => 0,

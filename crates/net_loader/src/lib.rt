@@ -21,7 +21,7 @@ ghost use lib.ListN.{length, replicate};
 ghost use Rattle.words.specs.Refusals.{first};
 ghost use Rattle.net.specs.Table.{shapeTests, loadCode};
 ghost use Rattle.net.specs.Held.{frontOver, loadedWords, afterLoad};
-ghost use Rattle.net.specs.Answer.{codeOf};
+ghost use Rattle.net.specs.Answer.{loadAnswerCode};
 ghost use Rattle.net.specs.Limits.{netWords};
 
 mod fill;
@@ -80,7 +80,7 @@ fn load_code(s: &[u8], t: &mut NetWords) -> u32
 // The answer whose number is n.
 fn answer(n: u32) -> LoadAnswer
     requires { ⌜ n ≤ 9 ⌝ }
-    ensures { λ r. ⌜ codeOf r ≡ n ⌝ }
+    ensures { λ r. ⌜ loadAnswerCode r ≡ n ⌝ }
 {
     match n {
         0 => LoadAnswer::Taken,
@@ -99,7 +99,7 @@ fn answer(n: u32) -> LoadAnswer
 // Loads a table file into words that are all zero. Where it is refused, nothing is said of them.
 pub fn load_fresh(s: &[u8], t: &mut NetWords) -> LoadAnswer
     requires { ⌜ now t ≡ replicate netWords 0 ⌝ }
-    ensures { λ r. ⌜ (codeOf r ≡ loadCode (now (s .entry))) × (loadCode (now (s .entry)) ≡ 0 → now (t .exit) ≡ loadedWords (now (s .entry)) (now (t .entry))) ⌝ }
+    ensures { λ r. ⌜ (loadAnswerCode r ≡ loadCode (now (s .entry))) × (loadCode (now (s .entry)) ≡ 0 → now (t .exit) ≡ loadedWords (now (s .entry)) (now (t .entry))) ⌝ }
 {
     let r = load_code(s, t);
     answer(r)
@@ -118,12 +118,12 @@ fn count_words(t: &NetWords)
 
 // Loads a table file into lent words. Where it is refused the words stay as they are.
 pub fn load(s: &[u8], t: &mut NetWords) -> LoadAnswer
-    ensures { λ r. ⌜ (codeOf r ≡ loadCode (now (s .entry))) × (now (t .exit) ≡ afterLoad (now (s .entry)) (now (t .entry))) ⌝ }
+    ensures { λ r. ⌜ (loadAnswerCode r ≡ loadCode (now (s .entry))) × (now (t .exit) ≡ afterLoad (now (s .entry)) (now (t .entry))) ⌝ }
 {
     count_words(t);
     let mut w = [0u32; NET_WORDS];
     let r = load_fresh(s, &mut w);
-    if net::number(r) != 0 {
+    if net::code(r) != 0 {
         return r;
     }
     copy_all(&w, t);

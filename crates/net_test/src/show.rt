@@ -91,7 +91,7 @@ fn name(a: LoadAnswer) -> usize {
 
 // The answer's name and number.
 fn put_answer(a: LoadAnswer) {
-    say(name(a), wide(net::number(a)));
+    say(name(a), wide(net::code(a)));
 }
 
 // What word i holds before a table is loaded.

@@ -20,7 +20,7 @@ use Rattle.replay.proofs.Accepted.{accepted}
 use Rattle.trace_reader.specs.declared.Answer.{Answer}
 use Rattle.trace_reader.specs.declared.Found.{Found}
 use Rattle.trace_reader.specs.declared.Found.the-variants as found
-use Rattle.trace_reader.specs.Answers.{codeOf, eventIn, nothing, unless}
+use Rattle.trace_reader.specs.Answers.{foundCode, eventIn, nothing, unless}
 use Rattle.trace_reader.specs.Claims.{Handed}
 use Rattle.trace_reader.specs.Trace.{eventAt, endTests, readTests, eventFound, readCode, readFrom}
 use Rattle.trace_reader.proofs.HandedLaws.{handed, read-code}
@@ -95,11 +95,11 @@ module _ (N : Net) (L : Loaded N) (ks f : List ℕ) (body : ℕ) where
     abbrev answered : Answer
     answered = readFrom N ks n f from body at
 
-    stopped : (d : Found) → answered .found ≡ d → (codeOf d ≡ 0 → at ≡ body) → From from at n [] (codeOf d)
+    stopped : (d : Found) → answered .found ≡ d → (foundCode d ≡ 0 → at ≡ body) → From from at n [] (foundCode d)
     unfolding wordsFrom
     stopped d p w = record {
       stand = refl;
-      code-is = sym (ap codeOf p) ∙ read-code N ks n f from body at ∙ same-code (sym (add-zero n)) (sym (add-zero from)) (sym (add-zero at));
+      code-is = sym (ap foundCode p) ∙ read-code N ks n f from body at ∙ same-code (sym (add-zero n)) (sym (add-zero from)) (sym (add-zero at));
       whole = λ z. add-zero at ∙ w z;
     }
 
@@ -114,7 +114,7 @@ module _ (N : Net) (L : Loaded N) (ks f : List ℕ) (body : ℕ) where
       event-is : eventIn (answered .event) ≡ eventAt f from
       event-is =
           ap (λ (a : Answer). eventIn (a .event)) is-found
-          ∙ ap {B = plain.Event} (λ (os : List ℕ). record { act = word f from; objs = os }) (first-of-eight (objects f from) (count f from) (length-at f (from + 8) (count f from)) (h .few))
+          ∙ ap {B = plain.Event} (λ (os : List ℕ). plain.eventOf (word f from) os) (first-of-eight (objects f from) (count f from) (length-at f (from + 8) (count f from)) (h .few))
 
       few : n < 1000000
       few = accepted N ks 0 n (eventIn (eventFound f from at .event)) (h .taken) .few

@@ -16,7 +16,7 @@ use Rattle.words.proofs.Lists.{pos, is-eq, clash, All-append, All-zip, All-to, 
 use Rattle.words.proofs.Sums.{total-append, total-map, total-same, total-length, sumTo-same, squeeze, by-value}
 use Rattle.words.proofs.Refusals.{none-apply, first-zero}
 use Rattle.net.specs.Net.{Net, Arc, Loaded, GoodArc, arcKinds, takes, arcOf}
-use Rattle.replay.specs.Plain.{Event, Leg, Hop, hops, walked, kindsOf, closers, closerKinds, leg, legs, ending, endings, begins, course, after, eventTests, refusal, closeTests, registerTests, registerCode}
+use Rattle.replay.specs.Plain.{Event, Leg, Hop, hops, walked, objectKinds, closers, closerKinds, leg, legs, ending, endings, begins, course, after, eventTests, refusal, closeTests, registerTests, registerCode}
 use Rattle.replay.specs.Sound.{OnKind}
 
 -- what acceptance says of an event
@@ -24,8 +24,8 @@ pub record Fitting (N : Net) (ks : List ℕ) (e : Event) : Type 0 where
   pub act-in : e .act < N .acts
   pub size : length (e .objs) ≡ length (N .arcs (e .act))
   pub known : All (λ (o : ℕ). o < length ks) (e .objs)
-  pub taken : All (λ (k : ℕ). takes N (e .act) k ≡ true) (kindsOf ks (e .objs))
-  pub once : twice (kindsOf ks (e .objs)) ≡ false
+  pub taken : All (λ (k : ℕ). takes N (e .act) k ≡ true) (objectKinds ks (e .objs))
+  pub once : twice (objectKinds ks (e .objs)) ≡ false
 
 pub record Accepted (N : Net) (ks : List ℕ) (closed events : ℕ) (e : Event) : Type 0 where
   pub still-open : closed ≡ 0
@@ -42,7 +42,7 @@ accepted N ks closed events e z =
         act-in = leb-false _ _ (t .1 .1 .0);
         size = is-eq _ _ (t .1 .1 .1 .0);
         known = any-none _ _ (λ o f. leb-false _ _ f) (e .objs) (t .1 .1 .1 .1 .0);
-        taken = any-none _ _ (λ k f. not-false _ f) (kindsOf ks (e .objs)) (t .1 .1 .1 .1 .1 .0);
+        taken = any-none _ _ (λ k f. not-false _ f) (objectKinds ks (e .objs)) (t .1 .1 .1 .1 .1 .0);
         once = t .1 .1 .1 .1 .1 .1 .0;
       };
     }
@@ -103,7 +103,7 @@ arc-for N k (x ∷ xs) a e = go (ℕ-discrete k (N .kindOf (x .0))) (arc-for N k
     go (no m) r = rw (ne-eqb (N .kindOf (x .0)) k (λ q. m (sym q))) (r (has-head _ _ e (ne-eqb k (N .kindOf (x .0)) m)))
 
 module _ (N : Net) (L : Loaded N) (ks : List ℕ) where
-  legs-good : (a : ℕ) → a < N .acts → (os : List ℕ) → All (λ (o : ℕ). o < length ks) os → All (λ (k : ℕ). takes N a k ≡ true) (kindsOf ks os) → All (GoodLeg N ks) (map (leg N ks a) os)
+  legs-good : (a : ℕ) → a < N .acts → (os : List ℕ) → All (λ (o : ℕ). o < length ks) os → All (λ (k : ℕ). takes N a k ≡ true) (objectKinds ks os) → All (GoodLeg N ks) (map (leg N ks a) os)
   legs-good a h [] k t = tt
   legs-good a h (o ∷ os) k t =
       let g = arc-for N (getD ks o 0) (N .arcs a) (L .arc-good a h) (t .0) in
@@ -213,14 +213,14 @@ module _ (N : Net) (L : Loaded N) (ks : List ℕ) (kk : All (λ (k : ℕ). k < N
   pub event-arcs : (e : Event) → Fitting N ks e → (v : Arc → ℕ) → total (λ (o : ℕ). v (arcOf (N .kindOf) (getD ks o 0) (N .arcs (e .act)))) (e .objs) ≡ total v (N .arcs (e .act))
   event-arcs e t v =
       sym (total-map (λ (o : ℕ). getD ks o 0) u (e .objs))
-      ∙ same-total (N .kinds) (kindsOf ks (e .objs)) (arcKinds N (e .act)) objs-in arcs-in (simp length-map (t .size)) (t .once) (t .taken) u
+      ∙ same-total (N .kinds) (objectKinds ks (e .objs)) (arcKinds N (e .act)) objs-in arcs-in (simp length-map (t .size)) (t .once) (t .taken) u
       ∙ total-map (λ (x : Arc). N .kindOf (x .0)) u (N .arcs (e .act))
       ∙ total-same (λ (x : Arc). arcOf (N .kindOf) (N .kindOf (x .0)) (N .arcs (e .act)) ≡ x) _ v (N .arcs (e .act)) (arc-self (N .kindOf) (N .arcs (e .act)) (L .arc-once (e .act) (t .act-in))) (λ x q. ap v q)
     where
       u : ℕ → ℕ
       u k = v (arcOf (N .kindOf) k (N .arcs (e .act)))
 
-      objs-in : All (λ (k : ℕ). k < N .kinds) (kindsOf ks (e .objs))
+      objs-in : All (λ (k : ℕ). k < N .kinds) (objectKinds ks (e .objs))
       objs-in = All-map (λ (o : ℕ). getD ks o 0) (λ (k : ℕ). k < N .kinds) (e .objs) (All-to _ _ (λ o h. All-at (λ (k : ℕ). k < N .kinds) 0 ks kk o h) (e .objs) (t .known))
 
       arcs-in : All (λ (k : ℕ). k < N .kinds) (arcKinds N (e .act))

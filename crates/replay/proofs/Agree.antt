@@ -13,7 +13,7 @@ use Rattle.words.specs.Lists.{pick, All, keep, one, total, sumTo}
 use Rattle.words.proofs.Lists.{All-append, All-keep}
 use Rattle.words.proofs.Sums.{total-append, total-map, total-same, total-swap, total-length, sumTo-same, sumTo-at, by-value}
 use Rattle.net.specs.Net.{Net, Arc, Loaded}
-use Rattle.replay.specs.Plain.{Event, Ask, event, close, Plain, Hop, jumped, hops, walked, closers, closerKinds, endings, begins, start, withFlag, answer, accept, ask, run, moves, stand, lasts, history, positions}
+use Rattle.replay.specs.Plain.{Event, Ask, event, close, Plain, Hop, jumped, hops, walked, closers, closerKinds, endings, begins, start, withFlag, answer, accept, ask, run, eventHops, stand, closeHops, history, positions}
 use Rattle.replay.specs.Counts.{leaps, transfers, consumed, jumpsIn, jumpsOut, pairJumps, fired, jumps}
 use Rattle.replay.specs.State.{stateOf, hopIndex, storedConsumed, storedPair, storedJumpsIn, storedJumpsOut, storedTransfers}
 use Rattle.replay.specs.Sound.{OnKind}
@@ -75,17 +75,17 @@ abbrev pub Leapt : Net → Hop → Type 0
 Leapt N h = GoodHop N h × (jumped h ≡ true)
 
 module _ (N : Net) (L : Loaded N) (p : Plain) (R : Reached N p) where
-  on-stand : All (GoodHop N) (moves N p) × OnKind N (p .kinds) (stand N p)
+  on-stand : All (GoodHop N) (eventHops N p) × OnKind N (p .kinds) (stand N p)
   on-stand = course-good N L (p .kinds) (p .events) (begins N (p .kinds)) (begins-on N L (p .kinds) (R .register .kinds)) (R .fits)
 
   on-end : All (GoodHop N) (hops (stand N p) (endings N (p .kinds))) × OnKind N (p .kinds) (walked (stand N p) (endings N (p .kinds)))
   on-end = hops-good N L (p .kinds) (endings N (p .kinds)) (stand N p) (on-stand .1) (endings-good N L (p .kinds) (R .register .kinds))
 
-  lasts-good : All (GoodHop N) (lasts N p)
-  lasts-good = by-flag (λ (p : Plain). All (GoodHop N) (lasts N p)) p (R .flag) tt (on-end .0)
+  lasts-good : All (GoodHop N) (closeHops N p)
+  lasts-good = by-flag (λ (p : Plain). All (GoodHop N) (closeHops N p)) p (R .flag) tt (on-end .0)
 
   history-good : All (GoodHop N) (history N p)
-  history-good = All-append (GoodHop N) (moves N p) (lasts N p) (on-stand .0) lasts-good
+  history-good = All-append (GoodHop N) (eventHops N p) (closeHops N p) (on-stand .0) lasts-good
 
   pub positions-on : OnKind N (p .kinds) (positions N p)
   positions-on = by-flag (λ (p : Plain). OnKind N (p .kinds) (positions N p)) p (R .flag) (on-stand .1) (on-end .1)
@@ -115,7 +115,7 @@ module _ (N : Net) (L : Loaded N) (p : Plain) (R : Reached N p) where
   fired-is a h = tallied (map (λ (e : Event). e .act) (p .events)) (N .acts) a h ∙ total-map (λ (e : Event). e .act) (λ (c : ℕ). one (eqb a c)) (p .events)
 
   pub jumps-is : (a : ℕ) → a < N .acts → getD (stateOf N p .jumps) a 0 ≡ jumps N p a
-  jumps-is a h = tallied (map (λ (h : Hop). h .act) (keep jumped (moves N p))) (N .acts) a h ∙ total-map (λ (h : Hop). h .act) (λ (c : ℕ). one (eqb a c)) (keep jumped (moves N p))
+  jumps-is a h = tallied (map (λ (h : Hop). h .act) (keep jumped (eventHops N p))) (N .acts) a h ∙ total-map (λ (h : Hop). h .act) (λ (c : ℕ). one (eqb a c)) (keep jumped (eventHops N p))
 
   -- a sum over the activities of what is stored for each is one over the events
   fired-sum : (v : ℕ → ℕ) → sumTo (N .acts) (λ (a : ℕ). getD (stateOf N p .fired) a 0 * v a) ≡ total (λ (e : Event). v (e .act)) (p .events)
@@ -129,16 +129,16 @@ module _ (N : Net) (L : Loaded N) (p : Plain) (R : Reached N p) where
       acts-in (e ∷ es) t = (t .0 .act-in, acts-in es (t .1))
 
   -- what is taken by events, at the close, and in all
-  moves-sum : (v : ℕ → ℕ) → total (λ (h : Hop). v (h .to)) (moves N p) ≡ total (λ (e : Event). total (λ (x : Arc). v (x .0)) (N .arcs (e .act))) (p .events)
+  moves-sum : (v : ℕ → ℕ) → total (λ (h : Hop). v (h .to)) (eventHops N p) ≡ total (λ (e : Event). total (λ (x : Arc). v (x .0)) (N .arcs (e .act))) (p .events)
   moves-sum v = course-sum N L (p .kinds) (R .register .kinds) (λ (a t : ℕ). v t) (p .events) (begins N (p .kinds)) (R .fits)
 
-  lasts-sum : (v : ℕ → ℕ) → total (λ (h : Hop). v (h .to)) (lasts N p) ≡ p .closed * total (λ (k : ℕ). v (N .sink k)) (closerKinds (p .kinds))
-  lasts-sum v = by-flag (λ (p : Plain). total (λ (h : Hop). v (h .to)) (lasts N p) ≡ p .closed * total (λ (k : ℕ). v (N .sink k)) (closerKinds (p .kinds))) p (R .flag)
+  lasts-sum : (v : ℕ → ℕ) → total (λ (h : Hop). v (h .to)) (closeHops N p) ≡ p .closed * total (λ (k : ℕ). v (N .sink k)) (closerKinds (p .kinds))
+  lasts-sum v = by-flag (λ (p : Plain). total (λ (h : Hop). v (h .to)) (closeHops N p) ≡ p .closed * total (λ (k : ℕ). v (N .sink k)) (closerKinds (p .kinds))) p (R .flag)
       (omega arith) (omega (arith, endings-sum N (p .kinds) v (stand N p)))
 
   history-sum : (v : ℕ → ℕ) → total (λ (h : Hop). v (h .to)) (history N p)
       ≡ sumTo (N .acts) (λ (a : ℕ). getD (stateOf N p .fired) a 0 * total (λ (x : Arc). v (x .0)) (N .arcs a)) + p .closed * total (λ (k : ℕ). v (N .sink k)) (closerKinds (p .kinds))
-  history-sum v = omega (arith, total-append (λ (h : Hop). v (h .to)) (moves N p) (lasts N p), moves-sum v, fired-sum (λ (a : ℕ). total (λ (x : Arc). v (x .0)) (N .arcs a)), lasts-sum v)
+  history-sum v = omega (arith, total-append (λ (h : Hop). v (h .to)) (eventHops N p) (closeHops N p), moves-sum v, fired-sum (λ (a : ℕ). total (λ (x : Arc). v (x .0)) (N .arcs a)), lasts-sum v)
 
   pub consumed-is : (q : ℕ) → storedConsumed N (stateOf N p) q ≡ consumed N p q
   consumed-is q = sym (history-sum (λ (t : ℕ). one (eqb q t)))
@@ -158,7 +158,7 @@ module _ (N : Net) (L : Loaded N) (p : Plain) (R : Reached N p) where
   transfers-by-objects = omega (
     arith,
     total-length (history N p),
-    total-append (λ (h : Hop). 1) (moves N p) (lasts N p),
+    total-append (λ (h : Hop). 1) (eventHops N p) (closeHops N p),
     moves-sum (λ (t : ℕ). 1),
     lasts-sum (λ (t : ℕ). 1),
     ap (λ (n : ℕ). p .closed * n) (total-length (closerKinds (p .kinds)) ∙ ap length (closers-kinds (p .kinds))),

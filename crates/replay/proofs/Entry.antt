@@ -12,7 +12,7 @@ use borrow.Author.Tests.{eqb-false}
 use Rattle.words.specs.Lists.{pick, All, has, twice, upto}
 use Rattle.words.proofs.Lists.{clash, All-to, All-map, All-unmap, All-zip, any-none, map-at, upto-in, upto-all}
 use Rattle.net.specs.Net.{Net}
-use Rattle.replay.specs.Plain.{Event, Leg, Hop, hops, walked, kindsOf, closers, leg, legs, ending, endings}
+use Rattle.replay.specs.Plain.{Event, Leg, Hop, hops, walked, objectKinds, closers, leg, legs, ending, endings}
 use Rattle.replay.specs.Claims.{judged, EventAtOnce, CloseAtOnce}
 use Rattle.replay.proofs.Accepted.{Fitting}
 
@@ -56,16 +56,16 @@ not-among o os h = any-none (eqb o) (λ (x : ℕ). x ≡ o → ⊥) (λ x f q. e
 
 module _ (N : Net) (ks : List ℕ) where
   -- objects of different kinds are different
-  pub apart-legs : (a : ℕ) (os : List ℕ) → twice (kindsOf ks os) ≡ false → Apart (map (leg N ks a) os)
+  pub apart-legs : (a : ℕ) (os : List ℕ) → twice (objectKinds ks os) ≡ false → Apart (map (leg N ks a) os)
   apart-legs a [] e = tt
-  apart-legs a (o ∷ os) e = go (has (getD ks o 0) (kindsOf ks os)) refl e (apart-legs a os)
+  apart-legs a (o ∷ os) e = go (has (getD ks o 0) (objectKinds ks os)) refl e (apart-legs a os)
     where
-      go : (b : Bool) → has (getD ks o 0) (kindsOf ks os) ≡ b → pick b true (twice (kindsOf ks os)) ≡ false → (twice (kindsOf ks os) ≡ false → Apart (map (leg N ks a) os)) → Apart (map (leg N ks a) (o ∷ os))
+      go : (b : Bool) → has (getD ks o 0) (objectKinds ks os) ≡ b → pick b true (twice (objectKinds ks os)) ≡ false → (twice (objectKinds ks os) ≡ false → Apart (map (leg N ks a) os)) → Apart (map (leg N ks a) (o ∷ os))
       go true h e r = clash e
       go false h e r = (
         All-map (leg N ks a) (λ (m : Leg). m .obj ≡ o → ⊥) os
             (All-to (λ (x : ℕ). getD ks o 0 ≡ getD ks x 0 → ⊥) (λ (x : ℕ). x ≡ o → ⊥) (λ x n q. n (ap (λ (z : ℕ). getD ks z 0) (sym q))) os
-            (All-unmap (λ (o : ℕ). getD ks o 0) (λ (k : ℕ). getD ks o 0 ≡ k → ⊥) os (any-none (eqb (getD ks o 0)) (λ (k : ℕ). getD ks o 0 ≡ k → ⊥) (λ k f. eqb-false _ _ f) (kindsOf ks os) h))),
+            (All-unmap (λ (o : ℕ). getD ks o 0) (λ (k : ℕ). getD ks o 0 ≡ k → ⊥) os (any-none (eqb (getD ks o 0)) (λ (k : ℕ). getD ks o 0 ≡ k → ⊥) (λ k f. eqb-false _ _ f) (objectKinds ks os) h))),
         r e,
       )
 

@@ -11,7 +11,7 @@ use borrow.Author.Tests.{eqb-true, eq-eqb, ne-eqb}
 use Rattle.words.specs.Lists.{pick, any, has, twice, keep}
 use Rattle.words.proofs.Lists.{clash}
 use Rattle.net.specs.Net.{Net, takes}
-use Rattle.replay.specs.Plain.{Event, Ask, event, Hop, jumped, hops, walked, kindsOf, leg, legs, refusal}
+use Rattle.replay.specs.Plain.{Event, Ask, Hop, jumped, hops, walked, objectKinds, leg, legs, refusal, eventOf, askEvent}
 use Rattle.replay.specs.State.{State, bump, tally, hopIndex, answerS, acceptS, askS}
 use Rattle.replay.specs.Record.{encode, tableIn}
 use Rattle.replay.specs.Calls.{netAt, stateAt, askCode, askBytes}
@@ -96,7 +96,7 @@ permuted-tally l (then p q) = permuted-tally l p ∙ permuted-tally l q
 
 module _ (N : Net) (ks : List ℕ) (a : ℕ) where
   -- the walk of objects of different kinds
-  permuted-walk : {os qs : List ℕ} → Permuted os qs → (ps : List ℕ) → twice (kindsOf ks os) ≡ false → walked ps (map (leg N ks a) os) ≡ walked ps (map (leg N ks a) qs)
+  permuted-walk : {os qs : List ℕ} → Permuted os qs → (ps : List ℕ) → twice (objectKinds ks os) ≡ false → walked ps (map (leg N ks a) os) ≡ walked ps (map (leg N ks a) qs)
   permuted-walk same ps t = refl
   permuted-walk (swap {x} {y} {xs = os}) ps t = ap (λ (m : List ℕ). walked m (map (leg N ks a) os)) (set-comm ps x y (leg N ks a x .out) (leg N ks a y .out) differ)
     where
@@ -105,8 +105,8 @@ module _ (N : Net) (ks : List ℕ) (a : ℕ) where
       head false p q r z e = clash (sym e)
 
       differ : x ≡ y → ⊥
-      differ e = head (eqb (getD ks x 0) (getD ks y 0)) (has (getD ks x 0) (kindsOf ks os)) (has (getD ks y 0) (kindsOf ks os)) (twice (kindsOf ks os)) t (eq-eqb (getD ks x 0) (getD ks y 0) (ap (λ (o : ℕ). getD ks o 0) e))
-  permuted-walk (cons {x} {xs = os} p) ps t = permuted-walk p (set ps x (leg N ks a x .out)) (tail (has (getD ks x 0) (kindsOf ks os)) (twice (kindsOf ks os)) t)
+      differ e = head (eqb (getD ks x 0) (getD ks y 0)) (has (getD ks x 0) (objectKinds ks os)) (has (getD ks y 0) (objectKinds ks os)) (twice (objectKinds ks os)) t (eq-eqb (getD ks x 0) (getD ks y 0) (ap (λ (o : ℕ). getD ks o 0) e))
+  permuted-walk (cons {x} {xs = os} p) ps t = permuted-walk p (set ps x (leg N ks a x .out)) (tail (has (getD ks x 0) (objectKinds ks os)) (twice (objectKinds ks os)) t)
     where
       tail : (h r : Bool) → pick h true r ≡ false → r ≡ false
       tail true r z = clash z
@@ -115,12 +115,12 @@ module _ (N : Net) (ks : List ℕ) (a : ℕ) where
 
   module _ {os qs : List ℕ} (p : Permuted os qs) where
     abbrev one-way : Event
-    one-way = record { act = a; objs = os }
+    one-way = eventOf a os
 
     abbrev other : Event
-    other = record { act = a; objs = qs }
+    other = eventOf a qs
 
-    kinds-permuted : Permuted (kindsOf ks os) (kindsOf ks qs)
+    kinds-permuted : Permuted (objectKinds ks os) (objectKinds ks qs)
     kinds-permuted = permuted-map (λ (o : ℕ). getD ks o 0) p
 
     refusal-same : (closed events : ℕ) → refusal N ks closed events one-way ≡ refusal N ks closed events other
@@ -132,22 +132,19 @@ module _ (N : Net) (ks : List ℕ) (a : ℕ) where
     )
 
     -- the jumps are the same, in another order
-    jumps-permuted : (ps : List ℕ) → twice (kindsOf ks os) ≡ false → Permuted (keep jumped (hops ps (legs N ks one-way))) (keep jumped (hops ps (legs N ks other)))
+    jumps-permuted : (ps : List ℕ) → twice (objectKinds ks os) ≡ false → Permuted (keep jumped (hops ps (legs N ks one-way))) (keep jumped (hops ps (legs N ks other)))
     jumps-permuted ps t =
         rw (judged-at-entry (legs N ks one-way) ps (apart-legs N ks a os t), judged-at-entry (legs N ks other) ps (apart-legs N ks a qs (sym (permuted-twice kinds-permuted) ∙ t)))
         (permuted-keep jumped (permuted-map (judged ps) (permuted-map (leg N ks a) p)))
 
-abbrev put : ℕ → List ℕ → Ask
-put a os = event (record { act = a; objs = os })
-
 module _ (N : Net) (d : State) (a : ℕ) {os qs : List ℕ} (p : Permuted os qs) where
-  answer-same : answerS N d (put a os) ≡ answerS N d (put a qs)
+  answer-same : answerS N d (askEvent a os) ≡ answerS N d (askEvent a qs)
   answer-same = refusal-same N (d .kinds) a p (d .closed) (d .events)
 
   -- what an accepted event leaves
-  accept-same : answerS N d (put a os) ≡ 0 → acceptS N d (put a os) ≡ acceptS N d (put a qs)
+  accept-same : answerS N d (askEvent a os) ≡ 0 → acceptS N d (askEvent a os) ≡ acceptS N d (askEvent a qs)
   accept-same z =
-      let t = accepted N (d .kinds) (d .closed) (d .events) (record { act = a; objs = os }) z .fits .once in
+      let t = accepted N (d .kinds) (d .closed) (d .events) (eventOf a os) z .fits .once in
       let j = jumps-permuted N (d .kinds) a p (d .places) t in
       cc (
         permuted-walk N (d .kinds) a p (d .places) t,
@@ -155,24 +152,24 @@ module _ (N : Net) (d : State) (a : ℕ) {os qs : List ℕ} (p : Permuted os qs)
         permuted-tally (d .pairs) (permuted-map (hopIndex N) j),
       )
 
-  state-same : askS N d (put a os) ≡ askS N d (put a qs)
-  state-same = rw (sym answer-same) (go (eqb (answerS N d (put a os)) 0) refl)
+  state-same : askS N d (askEvent a os) ≡ askS N d (askEvent a qs)
+  state-same = rw (sym answer-same) (go (eqb (answerS N d (askEvent a os)) 0) refl)
     where
-      go : (b : Bool) → eqb (answerS N d (put a os)) 0 ≡ b → pick b (acceptS N d (put a os)) d ≡ pick b (acceptS N d (put a qs)) d
+      go : (b : Bool) → eqb (answerS N d (askEvent a os)) 0 ≡ b → pick b (acceptS N d (askEvent a os)) d ≡ pick b (acceptS N d (askEvent a qs)) d
       go true e = accept-same (eqb-true _ _ e)
       go false e = refl
 
 module _ (b : List ℕ) (a : ℕ) {os qs : List ℕ} (p : Permuted os qs) where
-  code-same : askCode b (put a os) ≡ askCode b (put a qs)
+  code-same : askCode b (askEvent a os) ≡ askCode b (askEvent a qs)
   unfolding askCode
   code-same = answer-same (netAt b) (stateAt b) a p
 
-  bytes-same : askBytes b (put a os) ≡ askBytes b (put a qs)
+  bytes-same : askBytes b (askEvent a os) ≡ askBytes b (askEvent a qs)
   unfolding askBytes askCode
-  bytes-same = rw (sym (answer-same (netAt b) (stateAt b) a p)) (go (eqb (answerS (netAt b) (stateAt b) (put a os)) 0) refl)
+  bytes-same = rw (sym (answer-same (netAt b) (stateAt b) a p)) (go (eqb (answerS (netAt b) (stateAt b) (askEvent a os)) 0) refl)
     where
-      go : (c : Bool) → eqb (answerS (netAt b) (stateAt b) (put a os)) 0 ≡ c
-          → pick c (encode (tableIn b) (acceptS (netAt b) (stateAt b) (put a os))) b ≡ pick c (encode (tableIn b) (acceptS (netAt b) (stateAt b) (put a qs))) b
+      go : (c : Bool) → eqb (answerS (netAt b) (stateAt b) (askEvent a os)) 0 ≡ c
+          → pick c (encode (tableIn b) (acceptS (netAt b) (stateAt b) (askEvent a os))) b ≡ pick c (encode (tableIn b) (acceptS (netAt b) (stateAt b) (askEvent a qs))) b
       go true e = ap (encode (tableIn b)) (accept-same (netAt b) (stateAt b) a p (eqb-true _ _ e))
       go false e = refl
 

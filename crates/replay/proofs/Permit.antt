@@ -14,7 +14,7 @@ use Rattle.words.specs.Lists.{All, has, keep, one, total}
 use Rattle.words.proofs.Lists.{clash, All-map, All-unmap, All-zip, map-at}
 use Rattle.words.proofs.Sums.{total-append, total-keep, total-length}
 use Rattle.net.specs.Net.{Net, inputOf}
-use Rattle.replay.specs.Plain.{Event, Plain, withFlag, Leg, Hop, closers, jumped, hops, walked, leg, legs, ending, endings, course, after, begins, moves, stand}
+use Rattle.replay.specs.Plain.{Event, Plain, withFlag, Leg, Hop, closers, jumped, hops, walked, leg, legs, ending, endings, course, after, begins, eventHops, stand}
 use Rattle.replay.specs.Counts.{allJumps}
 use Rattle.replay.specs.Permitted.{Leaves, FiringSequence, ended, fired, Permitted}
 use Rattle.replay.specs.Claims.{judged}
@@ -113,4 +113,4 @@ permitted N p T c = (
   where
     same : allJumps N p ≡ leapsFrom N (p .kinds) (begins N (p .kinds)) (p .events)
     same = subst (λ (z : ℕ). allJumps N (withFlag p z) ≡ leapsFrom N (p .kinds) (begins N (p .kinds)) (p .events)) (sym c)
-        (leap-count (moves N p ++ hops (stand N p) (endings N (p .kinds))) ∙ total-append (λ (h : Hop). one (jumped h)) (moves N p) (hops (stand N p) (endings N (p .kinds))))
+        (leap-count (eventHops N p ++ hops (stand N p) (endings N (p .kinds))) ∙ total-append (λ (h : Hop). one (jumped h)) (eventHops N p) (hops (stand N p) (endings N (p .kinds))))

@@ -11,7 +11,7 @@ use borrow.Author.Tests.{eqb-true}
 use Rattle.words.specs.Lists.{pick, keep}
 use Rattle.words.proofs.Lists.{keep-append, map-append}
 use Rattle.net.specs.Net.{Net}
-use Rattle.replay.specs.Plain.{Event, Ask, event, close, Plain, jumped, hops, walked, legs, course, after, start, withAccepted, withFlag, answer, accept, ask, run, answers, moves, lasts}
+use Rattle.replay.specs.Plain.{Event, Ask, event, close, Plain, jumped, hops, walked, legs, course, after, start, withAccepted, withFlag, answer, accept, ask, run, answers, eventHops, closeHops}
 use Rattle.replay.specs.State.{State, withClosing, withPairs, tally, hopIndex, stateOf, afterEvent, afterClose, answerS, acceptS, askS, runS, answersS}
 use Rattle.replay.proofs.Tally.{tally-append, jumps-append}
 use Rattle.replay.proofs.Accepted.{accepted, closable}
@@ -30,16 +30,16 @@ module _ (N : Net) (ks : List ℕ) where
   at es c = withFlag (withAccepted (start ks) es) c
 
   event-sim : (es : List Event) (e : Event) → afterEvent N (stateOf N (at es 0)) e ≡ stateOf N (at (es ++ e ∷ []) 0)
-  event-sim es e = simp (append-nil, after-append, course-append, keep-append, map-append, tally-append, length-append, add-one) (cc (append-nil (moves N (at es 0))))
+  event-sim es e = simp (append-nil, after-append, course-append, keep-append, map-append, tally-append, length-append, add-one) (cc (append-nil (eventHops N (at es 0))))
 
   close-sim : (es : List Event) → afterClose N (stateOf N (at es 0)) ≡ stateOf N (at es 1)
   close-sim es = ap₂ (λ (n : ℕ) (js : List ℕ). withPairs (withClosing (stateOf N (at es 1)) n) js) closing pairs
     where
-      closing : 0 + length (keep jumped (lasts N (at es 1))) ≡ stateOf N (at es 1) .closing
+      closing : 0 + length (keep jumped (closeHops N (at es 1))) ≡ stateOf N (at es 1) .closing
       closing = omega arith
 
-      pairs : tally (stateOf N (at es 0) .pairs) (map (hopIndex N) (keep jumped (lasts N (at es 1)))) ≡ stateOf N (at es 1) .pairs
-      pairs = cc (append-nil (moves N (at es 0)), jumps-append N (replicate (N .places * N .places) 0) (moves N (at es 0)) (lasts N (at es 1)))
+      pairs : tally (stateOf N (at es 0) .pairs) (map (hopIndex N) (keep jumped (closeHops N (at es 1)))) ≡ stateOf N (at es 1) .pairs
+      pairs = cc (append-nil (eventHops N (at es 0)), jumps-append N (replicate (N .places * N .places) 0) (eventHops N (at es 0)) (closeHops N (at es 1)))
 
 -- what is accepted finds the run open
 pub still-open : (N : Net) (p : Plain) (q : Ask) → answer N p q ≡ 0 → p .closed ≡ 0

@@ -6,7 +6,7 @@ use mathlib.Core.Path.{_≡_}
 use mathlib.Core.List.{List, _∷_, map}
 use lib.ListN.{length, getD}
 use Rattle.net.specs.Net.{Net}
-use Rattle.replay.specs.Plain.{Event, Leg, Hop, event, Plain, hops, walked, legs, endings, positions}
+use Rattle.replay.specs.Plain.{Event, Leg, Hop, Plain, hops, walked, legs, endings, positions, askEvent}
 use Rattle.replay.specs.Counts.{transfers, allJumps, consumed, jumpsIn, jumpsOut, pairJumps, fired, moved, jumps, closingJumps}
 use Rattle.replay.specs.Permitted.{Leaves}
 use Rattle.replay.specs.State.{State, answerS, askS, storedConsumed, storedPair, storedJumpsIn, storedJumpsOut, storedMoved, storedJumps, storedTransfers}
@@ -54,10 +54,10 @@ pub data Permuted {A : Type 0} : List A → List A → Type 0 where
 -- The event of activity a is the same with the objects `os` as with `qs`, accepted or refused: to every state, in the answer
 -- and in the state after it, and to every trail, whatever its bytes, in the answer's number and in the bytes after it.
 pub record SameEvent (a : ℕ) (os qs : List ℕ) : Type 0 where
-  pub answer : (N : Net) (d : State) → answerS N d (event (record { act = a; objs = os })) ≡ answerS N d (event (record { act = a; objs = qs }))
-  pub state : (N : Net) (d : State) → askS N d (event (record { act = a; objs = os })) ≡ askS N d (event (record { act = a; objs = qs }))
-  pub code : (b : List ℕ) → askCode b (event (record { act = a; objs = os })) ≡ askCode b (event (record { act = a; objs = qs }))
-  pub bytes : (b : List ℕ) → askBytes b (event (record { act = a; objs = os })) ≡ askBytes b (event (record { act = a; objs = qs }))
+  pub answer : (N : Net) (d : State) → answerS N d (askEvent a os) ≡ answerS N d (askEvent a qs)
+  pub state : (N : Net) (d : State) → askS N d (askEvent a os) ≡ askS N d (askEvent a qs)
+  pub code : (b : List ℕ) → askCode b (askEvent a os) ≡ askCode b (askEvent a qs)
+  pub bytes : (b : List ℕ) → askBytes b (askEvent a os) ≡ askBytes b (askEvent a qs)
 
 -- the jumps are a part of the transfers, so that 1 - jumps/transfers (FIT) is a difference that is not cut off at 0
 pub record PartOf (jumps transfers : ℕ) : Type 0 where

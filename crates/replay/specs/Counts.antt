@@ -5,7 +5,7 @@ use lib.ListN.{length}
 use lib.Dec.{eqb}
 use Rattle.words.specs.Lists.{keep, one, total, count}
 use Rattle.net.specs.Net.{Net}
-use Rattle.replay.specs.Plain.{Event, Hop, jumped, Plain, moves, lasts, history}
+use Rattle.replay.specs.Plain.{Event, Hop, jumped, Plain, eventHops, closeHops, history}
 
 module _ (N : Net) where
   -- the jumps among all hops
@@ -46,8 +46,8 @@ module _ (N : Net) where
 
   -- JUMPS of an activity: the jumps in its events
   abbrev pub jumps : Plain → ℕ → ℕ
-  jumps p a = count (λ (h : Hop). eqb a (h .act)) (keep jumped (moves N p))
+  jumps p a = count (λ (h : Hop). eqb a (h .act)) (keep jumped (eventHops N p))
 
   -- closing jumps
   abbrev pub closingJumps : Plain → ℕ
-  closingJumps p = length (keep jumped (lasts N p))
+  closingJumps p = length (keep jumped (closeHops N p))

@@ -14,6 +14,9 @@ pub record Event : Type 0 where
   pub act : ℕ
   pub objs : List ℕ
 
+abbrev pub eventOf : ℕ → List ℕ → Event
+eventOf a os = record { act = a; objs = os }
+
 -- What one object has to do: it is sought on place `inp` and left on place `out`. `act` is the activity; the number of
 -- activities, which is none of them, where the object is taken at the close.
 pub record Leg : Type 0 where
@@ -42,15 +45,15 @@ walked ps [] = ps
 walked ps (l ∷ ls) = walked (set ps (l .obj) (l .out)) ls
 
 -- the kinds of some objects
-abbrev pub kindsOf : List ℕ → List ℕ → List ℕ
-kindsOf ks os = map (λ (o : ℕ). getD ks o 0) os
+abbrev pub objectKinds : List ℕ → List ℕ → List ℕ
+objectKinds ks os = map (λ (o : ℕ). getD ks o 0) os
 
 -- who is taken at the close, by the register: every object; and their kinds
 abbrev pub closers : List ℕ → List ℕ
 closers ks = upto (length ks) 0
 
 abbrev pub closerKinds : List ℕ → List ℕ
-closerKinds ks = kindsOf ks (closers ks)
+closerKinds ks = objectKinds ks (closers ks)
 
 -- a net, and the kind of each object (the register)
 module _ (N : Net) (ks : List ℕ) where
@@ -91,11 +94,11 @@ activityTests N a n = (leb (N .acts) a, 23) ∷ (not (eqb n (length (N .arcs a))
 
 -- 25 and 26, each for any of the objects: by the register `ks`, the activity and the objects
 abbrev pub knownTests : Net → List ℕ → ℕ → List ℕ → List (Bool × ℕ)
-knownTests N ks a os = (any (λ (o : ℕ). leb (length ks) o) os, 25) ∷ (any (λ (k : ℕ). not (takes N a k)) (kindsOf ks os), 26) ∷ []
+knownTests N ks a os = (any (λ (o : ℕ). leb (length ks) o) os, 25) ∷ (any (λ (k : ℕ). not (takes N a k)) (objectKinds ks os), 26) ∷ []
 
 -- 27: by the register and the objects
 abbrev pub sameKindTests : List ℕ → List ℕ → List (Bool × ℕ)
-sameKindTests ks os = (twice (kindsOf ks os), 27) ∷ []
+sameKindTests ks os = (twice (objectKinds ks os), 27) ∷ []
 
 -- 25 to 27
 abbrev pub objectTests : Net → List ℕ → ℕ → List ℕ → List (Bool × ℕ)
@@ -129,6 +132,10 @@ pub record Plain : Type 0 where
 pub data Ask : Type 0 where
   event : Event → Ask
   close : Ask
+
+-- the event of an activity and its objects, put to a run or a trail
+abbrev pub askEvent : ℕ → List ℕ → Ask
+askEvent a os = event (eventOf a os)
 
 abbrev pub start : List ℕ → Plain
 start ks = record { kinds = ks; events = []; closed = 0 }
@@ -165,19 +172,19 @@ module _ (N : Net) where
   answers p (q ∷ qs) = answer p q ∷ answers (ask p q) qs
 
   -- the hops of the events, and where the objects stand after them
-  abbrev pub moves : Plain → List Hop
-  moves p = course N (p .kinds) (begins N (p .kinds)) (p .events)
+  abbrev pub eventHops : Plain → List Hop
+  eventHops p = course N (p .kinds) (begins N (p .kinds)) (p .events)
 
   abbrev pub stand : Plain → List ℕ
   stand p = after N (p .kinds) (begins N (p .kinds)) (p .events)
 
   -- the hops of the close, where there was one
-  abbrev pub lasts : Plain → List Hop
-  lasts p = pick (eqb (p .closed) 0) [] (hops (stand p) (endings N (p .kinds)))
+  abbrev pub closeHops : Plain → List Hop
+  closeHops p = pick (eqb (p .closed) 0) [] (hops (stand p) (endings N (p .kinds)))
 
   -- all hops, in order
   abbrev pub history : Plain → List Hop
-  history p = moves p ++ lasts p
+  history p = eventHops p ++ closeHops p
 
   -- the place of each object
   abbrev pub positions : Plain → List ℕ

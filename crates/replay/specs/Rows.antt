@@ -7,7 +7,7 @@ use lib.ListN.{length, getD}
 use lib.Dec.{eqb}
 use Rattle.words.specs.Lists.{All, keep, upto}
 use Rattle.net.specs.Net.{Net}
-use Rattle.replay.specs.Plain.{Event, Ask, event, close, Plain, start, run, answers, positions}
+use Rattle.replay.specs.Plain.{Event, Ask, event, close, Plain, start, run, answers, positions, askEvent}
 use Rattle.replay.specs.Permitted.{Permitted}
 use Rattle.replay.specs.Counts.{transfers, allJumps, consumed, jumpsIn, jumpsOut, pairJumps, fired, moved, jumps}
 
@@ -53,9 +53,6 @@ pub record Row : Type 0 where
   pub asks : List Ask
   pub shows : Shown
 
-abbrev pub ev : ℕ → List ℕ → Ask
-ev a os = event (record { act = a; objs = os })
-
 -- a script and two sheets
 abbrev pub three : List ℕ
 three = 0 ∷ 1 ∷ 1 ∷ []
@@ -64,7 +61,7 @@ three = 0 ∷ 1 ∷ 1 ∷ []
 abbrev pub awarded : List ℕ → Row
 awarded os = record {
   kinds = three;
-  asks = ev 0 (0 ∷ []) ∷ ev 1 (1 ∷ []) ∷ ev 2 os ∷ [];
+  asks = askEvent 0 (0 ∷ []) ∷ askEvent 1 (1 ∷ []) ∷ askEvent 2 os ∷ [];
   shows = record {
     answered = 0 ∷ 0 ∷ 0 ∷ [];
     stands = 1 ∷ 5 ∷ 3 ∷ [];
@@ -79,7 +76,7 @@ awarded os = record {
 abbrev pub bothJump : List ℕ → Row
 bothJump os = record {
   kinds = three;
-  asks = ev 2 os ∷ close ∷ [];
+  asks = askEvent 2 os ∷ close ∷ [];
   shows = record {
     answered = 0 ∷ 0 ∷ [];
     stands = 2 ∷ 5 ∷ 5 ∷ [];
@@ -95,7 +92,7 @@ rows =
     -- T3
     record {
       kinds = three;
-      asks = ev 0 (0 ∷ []) ∷ ev 1 (1 ∷ []) ∷ ev 2 (0 ∷ 1 ∷ []) ∷ ev 1 (2 ∷ []) ∷ ev 2 (0 ∷ 2 ∷ []) ∷ ev 3 (0 ∷ []) ∷ close ∷ [];
+      asks = askEvent 0 (0 ∷ []) ∷ askEvent 1 (1 ∷ []) ∷ askEvent 2 (0 ∷ 1 ∷ []) ∷ askEvent 1 (2 ∷ []) ∷ askEvent 2 (0 ∷ 2 ∷ []) ∷ askEvent 3 (0 ∷ []) ∷ close ∷ [];
       shows = record {
         answered = 0 ∷ 0 ∷ 0 ∷ 0 ∷ 0 ∷ 0 ∷ 0 ∷ [];
         stands = 2 ∷ 5 ∷ 5 ∷ [];
@@ -108,7 +105,7 @@ rows =
     -- T4, with the paper's sheet
     ∷ record {
       kinds = three;
-      asks = ev 0 (0 ∷ []) ∷ ev 1 (1 ∷ []) ∷ ev 2 (0 ∷ 1 ∷ []) ∷ ev 2 (0 ∷ 2 ∷ []) ∷ ev 3 (0 ∷ []) ∷ close ∷ [];
+      asks = askEvent 0 (0 ∷ []) ∷ askEvent 1 (1 ∷ []) ∷ askEvent 2 (0 ∷ 1 ∷ []) ∷ askEvent 2 (0 ∷ 2 ∷ []) ∷ askEvent 3 (0 ∷ []) ∷ close ∷ [];
       shows = record {
         answered = 0 ∷ 0 ∷ 0 ∷ 0 ∷ 0 ∷ 0 ∷ [];
         stands = 2 ∷ 5 ∷ 5 ∷ [];
@@ -137,7 +134,7 @@ rows =
     -- T8 to T10
     ∷ record {
       kinds = three;
-      asks = ev 0 (0 ∷ []) ∷ ev 1 (1 ∷ []) ∷ ev 2 (1 ∷ 0 ∷ []) ∷ ev 2 (1 ∷ 2 ∷ []) ∷ ev 2 (0 ∷ []) ∷ ev 3 (1 ∷ []) ∷ ev 4 (0 ∷ []) ∷ ev 2 (0 ∷ 3 ∷ []) ∷ close ∷ close ∷ ev 0 (0 ∷ []) ∷ [];
+      asks = askEvent 0 (0 ∷ []) ∷ askEvent 1 (1 ∷ []) ∷ askEvent 2 (1 ∷ 0 ∷ []) ∷ askEvent 2 (1 ∷ 2 ∷ []) ∷ askEvent 2 (0 ∷ []) ∷ askEvent 3 (1 ∷ []) ∷ askEvent 4 (0 ∷ []) ∷ askEvent 2 (0 ∷ 3 ∷ []) ∷ close ∷ close ∷ askEvent 0 (0 ∷ []) ∷ [];
       shows = record {
         answered = 0 ∷ 0 ∷ 0 ∷ 27 ∷ 24 ∷ 26 ∷ 23 ∷ 25 ∷ 0 ∷ 31 ∷ 21 ∷ [];
         stands = 2 ∷ 5 ∷ 5 ∷ [];

@@ -6,7 +6,7 @@ use lib.Dec.{eqb}
 use Rattle.words.specs.Lists.{pick, keep, one, total, sumTo}
 use Rattle.words.specs.Refusals.{first}
 use Rattle.net.specs.Net.{Net, Arc}
-use Rattle.replay.specs.Plain.{Event, Ask, event, close, Plain, Leg, Hop, jumped, hops, walked, closers, closerKinds, legs, endings, begins, refusal, closeTests, moves, lasts, history, positions}
+use Rattle.replay.specs.Plain.{Event, Ask, event, close, Plain, Leg, Hop, jumped, hops, walked, closers, closerKinds, legs, endings, begins, refusal, closeTests, eventHops, closeHops, history, positions}
 
 -- one more at index i
 abbrev pub bump : List ℕ → ℕ → List ℕ
@@ -148,9 +148,9 @@ module _ (N : Net) where
     places = positions N p;
     closed = p .closed;
     events = length (p .events);
-    closing = length (keep jumped (lasts N p));
+    closing = length (keep jumped (closeHops N p));
     fired = tally (replicate (N .acts) 0) (map (λ (e : Event). e .act) (p .events));
-    jumps = tally (replicate (N .acts) 0) (map (λ (h : Hop). h .act) (keep jumped (moves N p)));
+    jumps = tally (replicate (N .acts) 0) (map (λ (h : Hop). h .act) (keep jumped (eventHops N p)));
     pairs = tally (replicate (N .places * N .places) 0) (map hopIndex (keep jumped (history N p)));
   }
 

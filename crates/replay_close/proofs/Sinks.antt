@@ -60,7 +60,7 @@ module _ (w b : List ℕ) (l : Layout) (R : Ready w b) (e : l ≡ layoutOf (netI
   placed = placed-same (netIn w) (tableIn b) l d m (placed-at w b l R e) refl (length-walked ls (d .places)) refl refl (length-tally (map (hopIndex (netIn w)) (leapsOf d ls)) (d .pairs))
 
   pub can-close : l .counts < length (recordWords (tableIn b) m)
-  can-close = omega (arith, record-size (netIn w) (tableIn b) l m placed, placed .jumps-at)
+  can-close = omega (arith, record-size (netIn w) (tableIn b) l m placed, placed .pairs-at)
 
   pub closed-numbers : d .closed ≡ 0 → set (recordWords (tableIn b) m) (l .counts) 1 ≡ recordWords (tableIn b) (afterClose (netIn w) d)
   closed-numbers c =

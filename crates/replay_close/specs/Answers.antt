@@ -4,9 +4,9 @@ use Rattle.replay.specs.Plain.{Ask, close}
 use Rattle.replay_close.specs.declared.CloseAnswer.{CloseAnswer}
 use Rattle.replay_close.specs.declared.CloseAnswer.the-variants.{Taken, AlreadyClosed}
 
-abbrev pub closeCode : CloseAnswer → ℕ
-closeCode Taken = 0
-closeCode AlreadyClosed = 31
+abbrev pub closeAnswerCode : CloseAnswer → ℕ
+closeAnswerCode Taken = 0
+closeAnswerCode AlreadyClosed = 31
 
 -- a close that is put to a trail
 abbrev pub askClose : Ask

@@ -15,9 +15,9 @@ ghost use Rattle.replay.specs.Record.{tableIn, recordWords};
 ghost use Rattle.replay.specs.Calls.{stateAt, askCode, askBytes};
 ghost use Rattle.replay_objects.specs.Offsets.{layoutOf};
 ghost use Rattle.replay.specs.Ready.{Ready};
-ghost use Rattle.replay_close.specs.Answers.{closeCode, askClose};
+ghost use Rattle.replay_close.specs.Answers.{closeAnswerCode, askClose};
 
-// The answer to a close. `closeCode` gives document 01's number.
+// The answer to a close. `closeAnswerCode` gives document 01's number.
 pub enum CloseAnswer {
     Taken,
     // 31: already closed.
@@ -44,7 +44,7 @@ fn sink_objects(rec: &mut [u8], t: &NetWords, lay: Layout)
 // Closes a trail: it is closed already and nothing changes, or it is closed in the record's bytes.
 pub fn close(rec: &mut [u8], t: &NetWords) -> CloseAnswer
     requires { ⌜ Ready (now t) (now rec) ⌝ }
-    ensures { λ r. ⌜ (closeCode r ≡ askCode (now (rec .entry)) askClose) × (now (rec .exit) ≡ askBytes (now (rec .entry)) askClose) ⌝ }
+    ensures { λ r. ⌜ (closeAnswerCode r ≡ askCode (now (rec .entry)) askClose) × (now (rec .exit) ≡ askBytes (now (rec .entry)) askClose) ⌝ }
 {
     let lay = read_layout(rec, t);
     if words::get_word(rec, lay.counts) != 0 {

@@ -104,9 +104,9 @@ module _ (w b : List ℕ) (R : Ready w b) where
     placed : Placed N (tableIn b) l d
     placed = subst (λ (l : Layout). Placed N (tableIn b) l d) (sym e) (ready-placed w b R)
 
-    at : (i x : ℕ) → i < l .jumps + l .places * l .places → getD (recordWords (tableIn b) d) i 0 ≡ x → At b i x
+    at : (i x : ℕ) → i < l .pairs + l .places * l .places → getD (recordWords (tableIn b) d) i 0 ≡ x → At b i x
     at i x h q =
-        let s : length (wordsOf b) ≡ l .jumps + l .places * l .places = ap length (ready-words w b R) ∙ record-size N (tableIn b) l d placed in
+        let s : length (wordsOf b) ≡ l .pairs + l .places * l .places = ap length (ready-words w b R) ∙ record-size N (tableIn b) l d placed in
         record {
           there = omega arith;
           small = omega (arith, record-size N (tableIn b) l d placed, record-few N (tableIn b) l d placed);
@@ -114,13 +114,13 @@ module _ (w b : List ℕ) (R : Ready w b) where
         }
 
     pub closed-at : At b (l .counts) (stateAt b .closed)
-    closed-at = at (l .counts) (d .closed) (omega (arith, placed .jumps-at)) (get-closed N (tableIn b) l d placed)
+    closed-at = at (l .counts) (d .closed) (omega (arith, placed .pairs-at)) (get-closed N (tableIn b) l d placed)
 
     pub events-at : At b (l .counts + 1) (stateAt b .events)
-    events-at = at (l .counts + 1) (d .events) (omega (arith, placed .jumps-at)) (get-events N (tableIn b) l d placed)
+    events-at = at (l .counts + 1) (d .events) (omega (arith, placed .pairs-at)) (get-events N (tableIn b) l d placed)
 
     pub closing-at : At b (l .counts + 2) (stateAt b .closing)
-    closing-at = at (l .counts + 2) (d .closing) (omega (arith, placed .jumps-at)) (get-closing N (tableIn b) l d placed)
+    closing-at = at (l .counts + 2) (d .closing) (omega (arith, placed .pairs-at)) (get-closing N (tableIn b) l d placed)
 
     pub objects-are : l .objects ≡ length (stateAt b .kinds)
     objects-are = sym (placed .kinds-size)
@@ -128,20 +128,20 @@ module _ (w b : List ℕ) (R : Ready w b) where
     pub kind-at : (o : ℕ) → o < length (stateAt b .kinds) → At b (l .register + o) (getD (stateAt b .kinds) o 0)
     kind-at o h =
         let o-in : o < l .objects = omega (arith, objects-are) in
-        at (l .register + o) (getD (d .kinds) o 0) (omega (arith, placed .positions-at, placed .counts-at, placed .jumps-at)) (get-kind N (tableIn b) l d placed o o-in)
+        at (l .register + o) (getD (d .kinds) o 0) (omega (arith, placed .positions-at, placed .counts-at, placed .pairs-at)) (get-kind N (tableIn b) l d placed o o-in)
 
     pub fired-at : (a : ℕ) → a < netIn w .acts → At b (l .counts + (3 + 2 * a)) (getD (stateAt b .fired) a 0)
-    fired-at a h = at (l .counts + (3 + 2 * a)) (getD (d .fired) a 0) (omega (arith, placed .jumps-at)) (get-fired N (tableIn b) l d placed a h)
+    fired-at a h = at (l .counts + (3 + 2 * a)) (getD (d .fired) a 0) (omega (arith, placed .pairs-at)) (get-fired N (tableIn b) l d placed a h)
 
     pub jumps-at : (a : ℕ) → a < netIn w .acts → At b (l .counts + (4 + 2 * a)) (getD (stateAt b .jumps) a 0)
-    jumps-at a h = at (l .counts + (4 + 2 * a)) (getD (d .jumps) a 0) (omega (arith, placed .jumps-at)) (get-jumps N (tableIn b) l d placed a h)
+    jumps-at a h = at (l .counts + (4 + 2 * a)) (getD (d .jumps) a 0) (omega (arith, placed .pairs-at)) (get-jumps N (tableIn b) l d placed a h)
 
-    pub pair-at : (x y : ℕ) → x < netIn w .places → y < netIn w .places → At b (l .jumps + (x * l .places + y)) (storedPair (netIn w) (stateAt b) x y)
+    pub pair-at : (x y : ℕ) → x < netIn w .places → y < netIn w .places → At b (l .pairs + (x * l .places + y)) (storedPair (netIn w) (stateAt b) x y)
     pair-at x y hx hy =
         let p : l .places ≡ N .places = placed .places-are in
         let x-in : x < l .places = omega arith in
         let y-in : y < l .places = omega arith in
-        at (l .jumps + (x * l .places + y)) (storedPair N d x y) (omega (arith, digits-lt x-in y-in))
+        at (l .pairs + (x * l .places + y)) (storedPair N d x y) (omega (arith, digits-lt x-in y-in))
         (get-pair N (tableIn b) l d placed (x * l .places + y) ∙ ap (λ (n : ℕ). getD (d .pairs) (x * n + y) 0) p)
 
   -- how large the numbers can be

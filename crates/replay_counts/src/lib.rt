@@ -141,7 +141,7 @@ fn pair(rec: &[u8], t: &NetWords, x: usize, y: usize) -> u32
     ensures { λ r. ⌜ (r ≡ storedPair (netIn (now (t .entry))) (stateAt (now (rec .entry))) x y) × (r ≤ 8001024) ⌝ }
 {
     let lay = read_layout(rec, t);
-    words::get_word(rec, lay.jumps + (x * lay.places + y))
+    words::get_word(rec, lay.pairs + (x * lay.places + y))
 }
 
 // IN of place q: the jumps from every place to it.

@@ -15,7 +15,7 @@ use Rattle.words.proofs.Words.{length-words, length-bytes, words-of-bytes}
 use Rattle.net.specs.Net.{Net, GoodArc, takes, inputOf, outputOf}
 use Rattle.net.specs.Held.{netIn}
 use Rattle.net.proofs.IndexLaws.{arc-has}
-use Rattle.replay.specs.Plain.{kindsOf, objectTests}
+use Rattle.replay.specs.Plain.{objectKinds, objectTests}
 use Rattle.replay.specs.Record.{counts, contents, encode, tableIn, stateIn}
 use Rattle.replay.specs.Calls.{netAt, stateAt}
 use Rattle.replay_objects.specs.Offsets.{layoutOf}
@@ -29,7 +29,7 @@ use Rattle.replay.specs.Limits.{maxRecord, maxWords}
 
 -- what the tests of an event's objects give
 pub object-code : (N : Net) (ks : List ℕ) (a : ℕ) (os : List ℕ) → ObjectCode (first (objectTests N ks a os))
-object-code N ks a os = go (any (λ (o : ℕ). leb (length ks) o) os) (any (λ (k : ℕ). not (takes N a k)) (kindsOf ks os)) (twice (kindsOf ks os))
+object-code N ks a os = go (any (λ (o : ℕ). leb (length ks) o) os) (any (λ (k : ℕ). not (takes N a k)) (objectKinds ks os)) (twice (objectKinds ks os))
   where
     go : (x y z : Bool) → ObjectCode (first ((x, 25) ∷ (y, 26) ∷ (z, 27) ∷ []))
     go true y z = record { few = omega arith; many = λ n. omega arith }
@@ -43,14 +43,14 @@ module _ (w b : List ℕ) (l : Layout) (R : Ready w b) (e : l ≡ layoutOf (netI
   placed = placed-at w b l R e
 
   pub count-in : (i : ℕ) → i < 3 + 2 * netIn w .acts → l .counts + i < length (wordsOf b)
-  count-in i h = omega (arith, words-size w b l R e, placed .jumps-at)
+  count-in i h = omega (arith, words-size w b l R e, placed .pairs-at)
 
   pub events-read : getD (wordsOf b) (l .counts + 1) 0 ≡ stateAt b .events
   events-read = ap (λ (v : List ℕ). getD v (l .counts + 1) 0) (ready-words w b R) ∙ get-events (netIn w) (tableIn b) l (stateAt b) placed
 
   -- the register's bytes, and the kinds that they hold
   pub register-fits : (4 * l .register ≤ 4 * l .positions) × (4 * l .positions ≤ length b) × (length b ≤ maxRecord)
-  register-fits = omega (arith, words-size w b l R e, words-few w b l R e, ready-length w b R, placed .positions-at, placed .counts-at, placed .jumps-at)
+  register-fits = omega (arith, words-size w b l R e, words-few w b l R e, ready-length w b R, placed .positions-at, placed .counts-at, placed .pairs-at)
 
   pub register-words : wordsOf (take (4 * l .positions - 4 * l .register) (drop (4 * l .register) b)) ≡ stateAt b .kinds
   unfolding encode stateAt
@@ -79,16 +79,16 @@ module _ (w b : List ℕ) (l : Layout) (a : ℕ) (os : List ℕ) (M : Moving w b
   pub object-in : (i : ℕ) → i < length os → getD os i 0 < l .objects
   object-in i h = omega (arith, All-at (λ (o : ℕ). o < length (stateAt b .kinds)) 0 os (M .known) i h, laid .kinds-size)
 
-  pub kinds-length : length (kindsOf (stateAt b .kinds) os) ≡ length os
+  pub kinds-length : length (objectKinds (stateAt b .kinds) os) ≡ length os
   kinds-length = length-map os (λ (o : ℕ). getD (stateAt b .kinds) o 0)
 
-  pub kind-is : (i : ℕ) → i < length os → getD (kindsOf (stateAt b .kinds) os) i 0 ≡ getD (stateAt b .kinds) (getD os i 0) 0
+  pub kind-is : (i : ℕ) → i < length os → getD (objectKinds (stateAt b .kinds) os) i 0 ≡ getD (stateAt b .kinds) (getD os i 0) 0
   kind-is i h = map-at (λ (o : ℕ). getD (stateAt b .kinds) o 0) 0 0 os i h
 
   -- the jumps of the activity are one of the counts
-  pub own-in : (l .counts + (4 + 2 * a) < l .jumps) × (l .jumps ≤ maxWords)
+  pub own-in : (l .counts + (4 + 2 * a) < l .pairs) × (l .pairs ≤ maxWords)
   own-in =
-      (omega (arith, M .counted .act-in, laid .jumps-at), omega (arith, words-size w b l (M .counted .ready) (M .counted .lay), words-few w b l (M .counted .ready) (M .counted .lay)))
+      (omega (arith, M .counted .act-in, laid .pairs-at), omega (arith, words-size w b l (M .counted .ready) (M .counted .lay), words-few w b l (M .counted .ready) (M .counted .lay)))
 
 -- the kind of an event's object, and its places
 module _ (w b : List ℕ) (l : Layout) (a : ℕ) (os : List ℕ) (M : Moving w b l a os) (i : ℕ) (h : i < length os) where
@@ -99,7 +99,7 @@ module _ (w b : List ℕ) (l : Layout) (a : ℕ) (os : List ℕ) (M : Moving w b
   own-kind-in = kind-of-in w b l (M .counted .ready) (M .counted .lay) (getD os i 0) (object-in w b l a os M i h)
 
   pub own-kind-taken : takes (netIn w) a kind ≡ true
-  own-kind-taken = rw (← kind-is w b l a os M i h) (All-at (λ (k : ℕ). takes (netIn w) a k ≡ true) 0 (kindsOf (stateAt b .kinds) os) (M .taken) i (omega (arith, kinds-length w b l a os M)))
+  own-kind-taken = rw (← kind-is w b l a os M i h) (All-at (λ (k : ℕ). takes (netIn w) a k ≡ true) 0 (objectKinds (stateAt b .kinds) os) (M .taken) i (omega (arith, kinds-length w b l a os M)))
 
   arc-good : GoodArc (netIn w) (inputOf (netIn w) a kind, outputOf (netIn w) a kind)
   arc-good = arc-has (netIn w .kindOf) (GoodArc (netIn w)) kind (netIn w .arcs a) (ready-loaded w b (M .counted .ready) .arc-good a (M .counted .act-in)) own-kind-taken

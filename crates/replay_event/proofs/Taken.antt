@@ -5,14 +5,14 @@ use mathlib.Core.List.{List, map}
 use native.Mathlib.Omega.{arith}
 use lib.ListN.{getD, set}
 use Rattle.net.specs.Held.{netIn}
-use Rattle.replay.specs.Plain.{Leg, Hop, legs}
+use Rattle.replay.specs.Plain.{Leg, Hop, legs, eventOf, askEvent}
 use Rattle.replay.specs.State.{State, withEvents, bump, hopIndex, leapsOf, actJumps, afterLegs, afterEvent, answerS}
 use Rattle.replay.specs.Record.{recordWords, tableIn}
 use Rattle.replay.specs.Calls.{stateAt}
 use Rattle.replay_objects.specs.Offsets.{layoutOf}
 use Rattle.replay.specs.Ready.{Ready}
 use Rattle.replay_moves.specs.Moves.{CanAdd}
-use Rattle.replay_event.specs.Answers.{askEvent, Moving}
+use Rattle.replay_event.specs.Answers.{Moving}
 use Rattle.replay_objects.specs.declared.layout.Layout.{Layout}
 use Rattle.replay.proofs.Accepted.{accepted}
 use Rattle.replay.proofs.Tally.{length-tally}
@@ -26,7 +26,7 @@ module _ (w b : List ℕ) (l : Layout) (a : ℕ) (os : List ℕ) (M : Moving w b
   d = stateAt b
 
   abbrev ls : List Leg
-  ls = legs (netIn w) (d .kinds) (record { act = a; objs = os })
+  ls = legs (netIn w) (d .kinds) (eventOf a os)
 
   abbrev m : State
   m = afterLegs (netIn w) actJumps d ls
@@ -43,30 +43,30 @@ module _ (w b : List ℕ) (l : Layout) (a : ℕ) (os : List ℕ) (M : Moving w b
   events-more : bump (recordWords (tableIn b) m) (l .counts + 1) ≡ recordWords (tableIn b) (withEvents m (suc (d .events)))
   events-more = ap (λ (v : ℕ). set (recordWords (tableIn b) m) (l .counts + 1) (suc v)) (get-events (netIn w) (tableIn b) l m placed) ∙ put-events (netIn w) (tableIn b) l m placed (suc (d .events))
 
-  fired-more : bump (recordWords (tableIn b) (withEvents m (suc (d .events)))) (l .counts + (3 + 2 * a)) ≡ recordWords (tableIn b) (afterEvent (netIn w) d (record { act = a; objs = os }))
+  fired-more : bump (recordWords (tableIn b) (withEvents m (suc (d .events)))) (l .counts + (3 + 2 * a)) ≡ recordWords (tableIn b) (afterEvent (netIn w) d (eventOf a os))
   fired-more =
       ap (λ (v : ℕ). set (recordWords (tableIn b) (withEvents m (suc (d .events)))) (l .counts + (3 + 2 * a)) (suc v)) (get-fired (netIn w) (tableIn b) l (withEvents m (suc (d .events))) placed-events a (M .counted .act-in))
       ∙ put-fired (netIn w) (tableIn b) l (withEvents m (suc (d .events))) placed-events a (suc (getD (d .fired) a 0)) (M .counted .act-in)
 
-  pub event-counted : bump (bump (recordWords (tableIn b) m) (l .counts + 1)) (l .counts + (3 + 2 * a)) ≡ recordWords (tableIn b) (afterEvent (netIn w) d (record { act = a; objs = os }))
+  pub event-counted : bump (bump (recordWords (tableIn b) m) (l .counts + 1)) (l .counts + (3 + 2 * a)) ≡ recordWords (tableIn b) (afterEvent (netIn w) d (eventOf a os))
   event-counted = ap (λ (v : List ℕ). bump v (l .counts + (3 + 2 * a))) events-more ∙ fired-more
 
   pub can-events : CanAdd (l .counts + 1) 1 (recordWords (tableIn b) m)
   can-events = record {
-    inside = omega (arith, record-size (netIn w) (tableIn b) l m placed, placed .jumps-at);
+    inside = omega (arith, record-size (netIn w) (tableIn b) l m placed, placed .pairs-at);
     room = omega (arith, get-events (netIn w) (tableIn b) l m placed, ready-sound w b (M .counted .ready) .events);
   }
 
   pub can-fired : CanAdd (l .counts + (3 + 2 * a)) 1 (bump (recordWords (tableIn b) m) (l .counts + 1))
   can-fired = let R = M .counted .ready in let h = M .counted .act-in in rw events-more (record {
-    inside = omega (arith, record-size (netIn w) (tableIn b) l (withEvents m (suc (d .events))) placed-events, placed .jumps-at);
+    inside = omega (arith, record-size (netIn w) (tableIn b) l (withEvents m (suc (d .events))) placed-events, placed .pairs-at);
     room = omega (arith, get-fired (netIn w) (tableIn b) l (withEvents m (suc (d .events))) placed-events a h, fired-le (netIn w) (ready-loaded w b R) d (ready-sound w b R) a h);
   })
 
 -- an event that none of 21 to 27 refuses can be carried out
 pub can-take : (w b : List ℕ) (l : Layout) (a : ℕ) (os : List ℕ) → Ready w b → l ≡ layoutOf (netIn w) b → answerS (netIn w) (stateAt b) (askEvent a os) ≡ 0 → Moving w b l a os
 can-take w b l a os R e z =
-    let t = accepted (netIn w) (stateAt b .kinds) (stateAt b .closed) (stateAt b .events) (record { act = a; objs = os }) z in
+    let t = accepted (netIn w) (stateAt b .kinds) (stateAt b .closed) (stateAt b .events) (eventOf a os) z in
     record {
       counted = record { ready = R; lay = e; act-in = t .fits .act-in; size = t .fits .size };
       known = t .fits .known;

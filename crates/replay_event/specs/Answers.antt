@@ -7,7 +7,7 @@ use lib.ListN.{length}
 use Rattle.words.specs.Lists.{All}
 use Rattle.net.specs.Net.{takes}
 use Rattle.net.specs.Held.{netIn}
-use Rattle.replay.specs.Plain.{Ask, event, kindsOf}
+use Rattle.replay.specs.Plain.{Ask, event, objectKinds}
 use Rattle.replay.specs.Calls.{stateAt}
 use Rattle.replay_objects.specs.Offsets.{layoutOf}
 use Rattle.replay.specs.Ready.{Ready}
@@ -15,24 +15,20 @@ use Rattle.replay_objects.specs.declared.layout.Layout.{Layout}
 use Rattle.replay_event.specs.declared.event.EventAnswer.{EventAnswer}
 use Rattle.replay_event.specs.declared.event.EventAnswer.the-variants.{Taken, Closed, Full, Activity, Number, Object, Kind, TwoOfKind}
 
-abbrev pub eventCode : EventAnswer → ℕ
-eventCode Taken = 0
-eventCode Closed = 21
-eventCode Full = 22
-eventCode Activity = 23
-eventCode Number = 24
-eventCode Object = 25
-eventCode Kind = 26
-eventCode TwoOfKind = 27
+abbrev pub eventAnswerCode : EventAnswer → ℕ
+eventAnswerCode Taken = 0
+eventAnswerCode Closed = 21
+eventAnswerCode Full = 22
+eventAnswerCode Activity = 23
+eventAnswerCode Number = 24
+eventAnswerCode Object = 25
+eventAnswerCode Kind = 26
+eventAnswerCode TwoOfKind = 27
 
 -- a number that the tests of an event's objects give: 25 to 27, or 0
 pub record ObjectCode (n : ℕ) : Type 0 where
   pub few : n ≤ 27
   pub many : (n ≡ 0 → ⊥) → 25 ≤ n
-
--- an event that is put to a trail
-abbrev pub askEvent : ℕ → List ℕ → Ask
-askEvent a os = event (record { act = a; objs = os })
 
 -- a known activity and as many objects as it has arcs, with the layout of the record
 pub record Counted (w b : List ℕ) (l : Layout) (a : ℕ) (os : List ℕ) : Type 0 where
@@ -45,4 +41,4 @@ pub record Counted (w b : List ℕ) (l : Layout) (a : ℕ) (os : List ℕ) : Typ
 pub record Moving (w b : List ℕ) (l : Layout) (a : ℕ) (os : List ℕ) : Type 0 where
   pub counted : Counted w b l a os
   pub known : All (λ (o : ℕ). o < length (stateAt b .kinds)) os
-  pub taken : All (λ (k : ℕ). takes (netIn w) a k ≡ true) (kindsOf (stateAt b .kinds) os)
+  pub taken : All (λ (k : ℕ). takes (netIn w) a k ≡ true) (objectKinds (stateAt b .kinds) os)

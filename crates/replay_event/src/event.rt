@@ -12,15 +12,15 @@ ghost use mathlib.Core.Path.{_≡_};
 ghost use Rattle.words.specs.Refusals.{first};
 ghost use Rattle.words.specs.Words.{wordsOf};
 ghost use Rattle.net.specs.Held.{netIn};
-ghost use Rattle.replay.specs.Plain.{legs, objectTests};
+ghost use Rattle.replay.specs.Plain.{legs, objectTests, eventOf, askEvent};
 ghost use Rattle.replay.specs.State.{actJumps, afterLegs, afterEvent, answerS};
 ghost use Rattle.replay.specs.Record.{tableIn, recordWords};
 ghost use Rattle.replay.specs.Calls.{stateAt, askCode, askBytes};
 ghost use Rattle.replay_objects.specs.Offsets.{layoutOf};
 ghost use Rattle.replay.specs.Ready.{Ready};
-ghost use Rattle.replay_event.specs.Answers.{eventCode, askEvent, ObjectCode, Counted, Moving};
+ghost use Rattle.replay_event.specs.Answers.{eventAnswerCode, ObjectCode, Counted, Moving};
 
-// The answer to an event. `eventCode` gives document 01's number.
+// The answer to an event. `eventAnswerCode` gives document 01's number.
 pub enum EventAnswer {
     Taken,
     // 21: the trail is closed.
@@ -42,7 +42,7 @@ pub enum EventAnswer {
 // The answer of a number that the tests of an event's objects give.
 fn object_answer(code: u32) -> EventAnswer
     requires { ⌜ ObjectCode code ⌝ }
-    ensures { λ r. ⌜ eventCode r ≡ code ⌝ }
+    ensures { λ r. ⌜ eventAnswerCode r ≡ code ⌝ }
 {
     match code {
         0 => EventAnswer::Taken,
@@ -55,7 +55,7 @@ fn object_answer(code: u32) -> EventAnswer
 // 25 to 27: the tests of an event's objects.
 fn test_objects(rec: &[u8], t: &NetWords, lay: Layout, act: usize, objs: &[u8]) -> EventAnswer
     requires { ⌜ Counted (now t) (now rec) lay act (wordsOf (now objs)) ⌝ }
-    ensures code { λ r. ⌜ eventCode r ≡ first (objectTests (netIn (now (t .entry))) (stateAt (now (rec .entry)) .kinds) act (wordsOf (now (objs .entry)))) ⌝ }
+    ensures code { λ r. ⌜ eventAnswerCode r ≡ first (objectTests (netIn (now (t .entry))) (stateAt (now (rec .entry)) .kinds) act (wordsOf (now (objs .entry)))) ⌝ }
 {
     let from = 4 * lay.register;
     let to = 4 * lay.positions;
@@ -66,7 +66,7 @@ fn test_objects(rec: &[u8], t: &NetWords, lay: Layout, act: usize, objs: &[u8]) 
 fn refuse(rec: &[u8], t: &NetWords, lay: Layout, act: usize, objs: &[u8]) -> EventAnswer
     requires { ⌜ Ready (now t) (now rec) ⌝ }
     requires { ⌜ lay ≡ layoutOf (netIn (now t)) (now rec) ⌝ }
-    ensures code { λ r. ⌜ eventCode r ≡ answerS (netIn (now (t .entry))) (stateAt (now (rec .entry))) (askEvent act (wordsOf (now (objs .entry)))) ⌝ }
+    ensures code { λ r. ⌜ eventAnswerCode r ≡ answerS (netIn (now (t .entry))) (stateAt (now (rec .entry))) (askEvent act (wordsOf (now (objs .entry)))) ⌝ }
 {
     if words::get_word(rec, lay.counts) != 0 {
         return EventAnswer::Closed;
@@ -86,7 +86,7 @@ fn refuse(rec: &[u8], t: &NetWords, lay: Layout, act: usize, objs: &[u8]) -> Eve
 // Every object of the event jumps where it has to, and is moved; the activity's jumps are added once, behind the last object.
 fn step_objects(rec: &mut [u8], t: &NetWords, lay: Layout, act: usize, objs: &[u8])
     requires { ⌜ Moving (now t) (now rec) lay act (wordsOf (now objs)) ⌝ }
-    ensures { λ _. ⌜ wordsOf (now (rec .exit)) ≡ recordWords (tableIn (now (rec .entry))) (afterLegs (netIn (now (t .entry))) actJumps (stateAt (now (rec .entry))) (legs (netIn (now (t .entry))) (stateAt (now (rec .entry)) .kinds) (record { act = act; objs = wordsOf (now (objs .entry)) }))) ⌝ }
+    ensures { λ _. ⌜ wordsOf (now (rec .exit)) ≡ recordWords (tableIn (now (rec .entry))) (afterLegs (netIn (now (t .entry))) actJumps (stateAt (now (rec .entry))) (legs (netIn (now (t .entry))) (stateAt (now (rec .entry)) .kinds) (eventOf act (wordsOf (now (objs .entry)))))) ⌝ }
 {
     let n = objs.len() / 4;
     let mut done = 0;
@@ -105,7 +105,7 @@ fn step_objects(rec: &mut [u8], t: &NetWords, lay: Layout, act: usize, objs: &[u
 // An event to which none of 21 to 27 applies is carried out and counted.
 fn take_event(rec: &mut [u8], t: &NetWords, lay: Layout, act: usize, objs: &[u8])
     requires { ⌜ Moving (now t) (now rec) lay act (wordsOf (now objs)) ⌝ }
-    ensures { λ _. ⌜ wordsOf (now (rec .exit)) ≡ recordWords (tableIn (now (rec .entry))) (afterEvent (netIn (now (t .entry))) (stateAt (now (rec .entry))) (record { act = act; objs = wordsOf (now (objs .entry)) })) ⌝ }
+    ensures { λ _. ⌜ wordsOf (now (rec .exit)) ≡ recordWords (tableIn (now (rec .entry))) (afterEvent (netIn (now (t .entry))) (stateAt (now (rec .entry))) (eventOf act (wordsOf (now (objs .entry))))) ⌝ }
 {
     step_objects(rec, t, lay, act, objs);
     add_one(rec, lay.counts + 1);
@@ -125,7 +125,7 @@ pub fn apply(rec: &mut [u8], t: &NetWords, act: u32, objs: &[u8])
 // Puts an event to a trail: it is refused and nothing changes, or it is carried out in the record's bytes.
 pub fn event(rec: &mut [u8], t: &NetWords, act: u32, objs: &[u8]) -> EventAnswer
     requires { ⌜ Ready (now t) (now rec) ⌝ }
-    ensures { λ r. ⌜ (eventCode r ≡ askCode (now (rec .entry)) (askEvent act (wordsOf (now (objs .entry))))) × (now (rec .exit) ≡ askBytes (now (rec .entry)) (askEvent act (wordsOf (now (objs .entry))))) ⌝ }
+    ensures { λ r. ⌜ (eventAnswerCode r ≡ askCode (now (rec .entry)) (askEvent act (wordsOf (now (objs .entry))))) × (now (rec .exit) ≡ askBytes (now (rec .entry)) (askEvent act (wordsOf (now (objs .entry))))) ⌝ }
 {
     let lay = read_layout(rec, t);
     let answer = refuse(rec, t, lay, act as usize, objs);

@@ -19,17 +19,17 @@ module _ (w b : List ℕ) (l : Layout) (R : Ready w b) (e : l ≡ layoutOf (netI
   pub placed-at : Placed (netIn w) (tableIn b) l (stateAt b)
   placed-at = subst (λ (l : Layout). Placed (netIn w) (tableIn b) l (stateAt b)) (sym e) (ready-placed w b R)
 
-  pub words-size : length (wordsOf b) ≡ l .jumps + l .places * l .places
+  pub words-size : length (wordsOf b) ≡ l .pairs + l .places * l .places
   words-size = ap length (ready-words w b R) ∙ record-size (netIn w) (tableIn b) l (stateAt b) placed-at
 
   pub words-few : length (wordsOf b) ≤ maxWords
   words-few = rw (ready-words w b R) (record-few (netIn w) (tableIn b) l (stateAt b) placed-at)
 
   pub counts-few : l .counts + (3 + 2 * netIn w .acts) ≤ maxWords
-  counts-few = omega (arith, words-size, words-few, placed-at .jumps-at)
+  counts-few = omega (arith, words-size, words-few, placed-at .pairs-at)
 
   pub closed-in : l .counts < length (wordsOf b)
-  closed-in = omega (arith, words-size, placed-at .jumps-at)
+  closed-in = omega (arith, words-size, placed-at .pairs-at)
 
   pub closed-read : getD (wordsOf b) (l .counts) 0 ≡ stateAt b .closed
   closed-read = ap (λ (v : List ℕ). getD v (l .counts) 0) (ready-words w b R) ∙ get-closed (netIn w) (tableIn b) l (stateAt b) placed-at

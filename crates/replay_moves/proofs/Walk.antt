@@ -124,18 +124,18 @@ pub record Walk (N : Net) (table : List ℕ) (l : Layout) (b : ℕ) (d : State) 
   pub room : (j : ℕ) → l .counts ≤ j → getD w j 0 < b
 
 module _ (N : Net) (table : List ℕ) (l : Layout) (b : ℕ) (d : State) (w : List ℕ) (W : Walk N table l b d w) where
-  walk-size : length w ≡ l .jumps + l .places * l .places
+  walk-size : length w ≡ l .pairs + l .places * l .places
   walk-size = ap length (W .words) ∙ record-size N table l d (W .placed)
 
-  module _ (own o inp : ℕ) (low : l .counts ≤ own) (high : own < l .jumps) (known : o < l .objects) (there : inp < l .places) where
+  module _ (own o inp : ℕ) (low : l .counts ≤ own) (high : own < l .pairs) (known : o < l .objects) (there : inp < l .places) where
     at-in : getD w (placeAt l o) 0 * l .places + inp < l .places * l .places
     at-in = digits-lt (W .inside o known) there
 
     below : placeAt l o < l .counts
     below = omega (arith, W .placed .counts-at)
 
-    jumps-high : l .counts ≤ l .jumps
-    jumps-high = omega (arith, W .placed .jumps-at)
+    jumps-high : l .counts ≤ l .pairs
+    jumps-high = omega (arith, W .placed .pairs-at)
 
     moved-inside : (out : ℕ) → out < l .places → (k : ℕ) → k < l .objects → getD (moveWords l own o inp out w) (placeAt l k) 0 < l .places
     unfolding moveWords
@@ -159,17 +159,17 @@ module _ (N : Net) (table : List ℕ) (l : Layout) (b : ℕ) (d : State) (w : Li
 pub record Summing (N : Net) (table : List ℕ) (l : Layout) (b own s : ℕ) (d : State) (w : List ℕ) : Type 0 where
   pub walk : Walk N table l b d (raise w own s)
   pub low : l .counts ≤ own
-  pub high : own < l .jumps
+  pub high : own < l .pairs
 
 -- a walk begins with nothing to add
-pub sum-start : (N : Net) (table : List ℕ) (l : Layout) (b own : ℕ) (d : State) (w : List ℕ) → Walk N table l b d w → l .counts ≤ own → own < l .jumps → Summing N table l b own 0 d w
+pub sum-start : (N : Net) (table : List ℕ) (l : Layout) (b own : ℕ) (d : State) (w : List ℕ) → Walk N table l b d w → l .counts ≤ own → own < l .pairs → Summing N table l b own 0 d w
 sum-start N table l b own d w W low high = record { walk = rw (raise-none w own) W; low = low; high = high }
 
 module _ (N : Net) (table : List ℕ) (l : Layout) (b own s : ℕ) (d : State) (w : List ℕ) (S : Summing N table l b own s d w) where
   W : Walk N table l b d (raise w own s)
   W = S .walk
 
-  size : length w ≡ l .jumps + l .places * l .places
+  size : length w ≡ l .pairs + l .places * l .places
   size = sym (length-set w own (getD w own 0 + s)) ∙ walk-size N table l b d (raise w own s) W
 
   other : (j : ℕ) → (j ≡ own → ⊥) → getD w j 0 ≡ getD (raise w own s) j 0
@@ -180,7 +180,7 @@ module _ (N : Net) (table : List ℕ) (l : Layout) (b own s : ℕ) (d : State) (
 
   -- the register's numbers
   pub register-in : (o : ℕ) → o < l .objects → l .register + o < length w
-  register-in o h = omega (arith, size, W .placed .positions-at, W .placed .counts-at, W .placed .jumps-at)
+  register-in o h = omega (arith, size, W .placed .positions-at, W .placed .counts-at, W .placed .pairs-at)
 
   pub register-kind : (ks : List ℕ) → d .kinds ≡ ks → (o : ℕ) → o < l .objects → getD w (l .register + o) 0 ≡ getD ks o 0
   register-kind ks e o h =
@@ -284,8 +284,8 @@ module _ (N : Net) (table : List ℕ) (l : Layout) (at a : ℕ) (own : State →
         i = hopIndex N h
 
         pair : bump (recordWords table d) (pairAt l (h .from) (h .to)) ≡ recordWords table (withPairs d (bump (d .pairs) i))
-        pair = ap (λ (n : ℕ). bump (recordWords table d) (l .jumps + (h .from * n + h .to))) (P .places-are)
-            ∙ ap (λ (v : ℕ). set (recordWords table d) (l .jumps + i) (suc v)) (get-pair N table l d P i) ∙ put-pair N table l d P i (suc (getD (d .pairs) i 0))
+        pair = ap (λ (n : ℕ). bump (recordWords table d) (l .pairs + (h .from * n + h .to))) (P .places-are)
+            ∙ ap (λ (v : ℕ). set (recordWords table d) (l .pairs + i) (suc v)) (get-pair N table l d P i) ∙ put-pair N table l d P i (suc (getD (d .pairs) i 0))
 
         go : (c : Bool) → pick c (recordWords table d) (bump (bump (recordWords table d) (pairAt l (h .from) (h .to))) at) ≡ recordWords table (pick c d (own (withPairs d (bump (d .pairs) i)) (h ∷ [])))
         go true = refl

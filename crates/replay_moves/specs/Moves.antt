@@ -12,7 +12,7 @@ abbrev pub placeAt : Layout → ℕ → ℕ
 placeAt l o = l .positions + o
 
 abbrev pub pairAt : Layout → ℕ → ℕ → ℕ
-pairAt l p q = l .jumps + (p * l .places + q)
+pairAt l p q = l .pairs + (p * l .places + q)
 
 -- number i is d more
 abbrev pub raise : List ℕ → ℕ → ℕ → List ℕ

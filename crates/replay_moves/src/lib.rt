@@ -53,7 +53,7 @@ pub fn move_object(rec: &mut [u8], lay: Layout, o: usize, inp: usize, out: u32) 
 {
     let at = words::get_behind(rec, lay.positions, o) as usize;
     let d = jumps(at, inp);
-    add_behind(rec, lay.jumps, at * lay.places + inp, d);
+    add_behind(rec, lay.pairs, at * lay.places + inp, d);
     words::put_behind(rec, lay.positions, o, out);
     d
 }

@@ -27,7 +27,7 @@ pub record Placed (N : Net) (table : List ℕ) (l : Layout) (d : State) : Type 0
   pub register-at : 10 + length (wordsOf table) ≡ l .register
   pub positions-at : l .register + l .objects ≡ l .positions
   pub counts-at : l .positions + l .objects ≡ l .counts
-  pub jumps-at : l .counts + (3 + 2 * N .acts) ≡ l .jumps
+  pub pairs-at : l .counts + (3 + 2 * N .acts) ≡ l .pairs
   pub places-are : l .places ≡ N .places
   pub kinds-size : length (d .kinds) ≡ l .objects
   pub places-size : length (d .places) ≡ l .objects
@@ -47,7 +47,7 @@ placed-same N table l d e P k p f j q = record {
   register-at = P .register-at;
   positions-at = P .positions-at;
   counts-at = P .counts-at;
-  jumps-at = P .jumps-at;
+  pairs-at = P .pairs-at;
   places-are = P .places-are;
   kinds-size = k ∙ P .kinds-size;
   places-size = p ∙ P .places-size;
@@ -150,11 +150,11 @@ module _ (N : Net) (table : List ℕ) (l : Layout) (d : State) (P : Placed N tab
   counts-length = omega (arith, length-interleave (d .fired) (d .jumps) (P .fired-size ∙ sym (P .jumps-size)), P .fired-size)
 
   -- how many numbers there are
-  pub record-size : length (recordWords table d) ≡ l .jumps + l .places * l .places
-  record-size = omega (arith, four-size table (d .kinds) (d .places) (counts d) (d .pairs), counts-length, P .register-at, P .positions-at, P .counts-at, P .jumps-at, P .kinds-size, P .places-size, P .pairs-size)
+  pub record-size : length (recordWords table d) ≡ l .pairs + l .places * l .places
+  record-size = omega (arith, four-size table (d .kinds) (d .places) (counts d) (d .pairs), counts-length, P .register-at, P .positions-at, P .counts-at, P .pairs-at, P .kinds-size, P .places-size, P .pairs-size)
 
   pub record-few : length (recordWords table d) ≤ maxWords
-  record-few = omega (arith, record-size, mul-le-mul (P .places-few) (P .places-few), P .register-at, P .positions-at, P .counts-at, P .jumps-at, P .table-few, P .objects-few, P .acts-few)
+  record-few = omega (arith, record-size, mul-le-mul (P .places-few) (P .places-few), P .register-at, P .positions-at, P .counts-at, P .pairs-at, P .table-few, P .objects-few, P .acts-few)
 
   -- reading
   pub get-kind : (o : ℕ) → o < l .objects → getD (recordWords table d) (l .register + o) 0 ≡ getD (d .kinds) o 0
@@ -185,8 +185,8 @@ module _ (N : Net) (table : List ℕ) (l : Layout) (d : State) (P : Placed N tab
   pub get-jumps : (a : ℕ) → a < N .acts → getD (recordWords table d) (l .counts + (4 + 2 * a)) 0 ≡ getD (d .jumps) a 0
   get-jumps a h = get-count (4 + 2 * a) (omega arith) ∙ past-three _ _ _ (interleave (d .fired) (d .jumps)) (4 + 2 * a) (2 * a + 1) (omega arith) ∙ interleave-odd (d .fired) (d .jumps) a (P .fired-size ∙ sym (P .jumps-size))
 
-  pub get-pair : (i : ℕ) → getD (recordWords table d) (l .jumps + i) 0 ≡ getD (d .pairs) i 0
-  get-pair i = at-js table (d .kinds) (d .places) (counts d) (d .pairs) (l .jumps + i) i (omega (arith, P .register-at, P .positions-at, P .counts-at, P .jumps-at, P .kinds-size, P .places-size, counts-length))
+  pub get-pair : (i : ℕ) → getD (recordWords table d) (l .pairs + i) 0 ≡ getD (d .pairs) i 0
+  get-pair i = at-js table (d .kinds) (d .places) (counts d) (d .pairs) (l .pairs + i) i (omega (arith, P .register-at, P .positions-at, P .counts-at, P .pairs-at, P .kinds-size, P .places-size, counts-length))
 
   -- writing
   pub put-place : (o v : ℕ) → o < l .objects → set (recordWords table d) (l .positions + o) v ≡ recordWords table (withPlaces d (set (d .places) o v))
@@ -214,8 +214,8 @@ module _ (N : Net) (table : List ℕ) (l : Layout) (d : State) (P : Placed N tab
   put-jumps a v h = put-count (4 + 2 * a) v (withJumps d (set (d .jumps) a v)) (omega arith)
       (set-three _ _ _ (interleave (d .fired) (d .jumps)) (4 + 2 * a) (2 * a + 1) v (omega arith) ∙ ap (λ (r : List ℕ). d .closed ∷ d .events ∷ d .closing ∷ r) (sym (interleave-set-odd (d .fired) (d .jumps) a v))) refl refl refl
 
-  pub put-pair : (i v : ℕ) → set (recordWords table d) (l .jumps + i) v ≡ recordWords table (withPairs d (set (d .pairs) i v))
-  put-pair i v = set-js table (d .kinds) (d .places) (counts d) (d .pairs) (l .jumps + i) i v (omega (arith, P .register-at, P .positions-at, P .counts-at, P .jumps-at, P .kinds-size, P .places-size, counts-length))
+  pub put-pair : (i v : ℕ) → set (recordWords table d) (l .pairs + i) v ≡ recordWords table (withPairs d (set (d .pairs) i v))
+  put-pair i v = set-js table (d .kinds) (d .places) (counts d) (d .pairs) (l .pairs + i) i v (omega (arith, P .register-at, P .positions-at, P .counts-at, P .pairs-at, P .kinds-size, P .places-size, counts-length))
 
 -- bytes of a part
 take-small : (n : ℕ) (s : List ℕ) → ((i : ℕ) → getD s i 0 < 256) → (i : ℕ) → getD (take n s) i 0 < 256
@@ -257,7 +257,7 @@ module _ (w b : List ℕ) (R : Ready w b) where
     register-at = omega (arith, L .kinds-at, R .whole);
     positions-at = omega (arith, L .kinds-at, L .kinds-len, L .places-at);
     counts-at = omega (arith, L .kinds-len, L .places-at, L .counts-at, S .on .size);
-    jumps-at = omega (arith, L .counts-at, L .pairs-at);
+    pairs-at = omega (arith, L .counts-at, L .pairs-at);
     places-are = refl;
     kinds-size = omega (arith, L .kinds-len);
     places-size = omega (arith, L .kinds-len, S .on .size);

@@ -11,7 +11,7 @@ layoutOf N b = record {
   register = word b 8 / 4;
   positions = word b 16 / 4;
   counts = word b 24 / 4;
-  jumps = word b 32 / 4;
+  pairs = word b 32 / 4;
   objects = word b 12 / 4;
   places = N .places;
 }

@@ -13,7 +13,7 @@ pub struct Layout {
     pub register: usize,
     pub positions: usize,
     pub counts: usize,
-    pub jumps: usize,
+    pub pairs: usize,
     pub objects: usize,
     pub places: usize,
 }
@@ -36,7 +36,7 @@ pub fn read_layout(rec: &[u8], t: &NetWords) -> Layout
         register: quarter(rec, 8),
         positions: quarter(rec, 16),
         counts: quarter(rec, 24),
-        jumps: quarter(rec, 32),
+        pairs: quarter(rec, 32),
         objects: quarter(rec, 12),
         places: net_lookup::places(t),
     }

@@ -15,7 +15,7 @@ ghost use Rattle.words.specs.Refusals.{first};
 ghost use Rattle.words.specs.Words.{wordsOf};
 ghost use Rattle.net.specs.Held.{netIn, Held};
 ghost use Rattle.net.specs.Net.{takes};
-ghost use Rattle.replay.specs.Plain.{kindsOf, knownTests, objectTests};
+ghost use Rattle.replay.specs.Plain.{objectKinds, knownTests, objectTests};
 ghost use Rattle.replay.specs.Ready.{KnownKinds};
 
 // 1 where the activity does not take kind k, else 0.
@@ -36,7 +36,7 @@ fn take_kinds(objs: &[u8], act: usize, register: &[u8], t: &NetWords, kinds: &mu
     requires { ⌜ KnownKinds (netIn (now t)) (wordsOf (now register)) ⌝ }
     requires { ⌜ (length (wordsOf (now objs)) ≤ 8) × (act < netIn (now t) .acts) ⌝ }
     ensures code { λ r. ⌜ r ≡ first (knownTests (netIn (now (t .entry))) (wordsOf (now (register .entry))) act (wordsOf (now (objs .entry)))) ⌝ }
-    ensures kinds { λ r. ⌜ (r ≡ 0 → now (kinds .exit) ≡ sets (now (kinds .entry)) 0 (kindsOf (wordsOf (now (register .entry))) (wordsOf (now (objs .entry))))) ⌝ }
+    ensures kinds { λ r. ⌜ (r ≡ 0 → now (kinds .exit) ≡ sets (now (kinds .entry)) 0 (objectKinds (wordsOf (now (register .entry))) (wordsOf (now (objs .entry))))) ⌝ }
 {
     let size = register.len() / 4;
     let n = objs.len() / 4;

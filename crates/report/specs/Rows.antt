@@ -4,8 +4,8 @@ use Prim.Native.String.{String}
 use mathlib.Core.Path.{_≡_}
 use mathlib.Core.List.{List, [], _∷_}
 use Rattle.words.specs.Lists.{All}
-use Rattle.replay.specs.Plain.{close, start, run}
-use Rattle.replay.specs.Rows.{M, ev, three}
+use Rattle.replay.specs.Plain.{close, start, run, askEvent}
+use Rattle.replay.specs.Rows.{M, three}
 use Rattle.text.specs.Text.{ascii}
 use Rattle.text.specs.Fitness.{fitness, fitnessText}
 use Rattle.lines.specs.Lines.{trailLine, placeLine, actLine, jumpLine}
@@ -50,7 +50,7 @@ rounding =
 unfoldable pub whole : List Row
 whole =
     record {
-      gives = reportOf M (run M (start three) (ev 0 (0 ∷ []) ∷ ev 1 (1 ∷ []) ∷ ev 2 (0 ∷ 1 ∷ []) ∷ ev 2 (0 ∷ 2 ∷ []) ∷ ev 3 (0 ∷ []) ∷ close ∷ []));
+      gives = reportOf M (run M (start three) (askEvent 0 (0 ∷ []) ∷ askEvent 1 (1 ∷ []) ∷ askEvent 2 (0 ∷ 1 ∷ []) ∷ askEvent 2 (0 ∷ 2 ∷ []) ∷ askEvent 3 (0 ∷ []) ∷ close ∷ []));
       text = "trail 3 5 1 10 0.900\nplace 0 1 0 0 1.000\nplace 1 3 0 0 1.000\nplace 2 1 0 0 1.000\nplace 3 1 0 1 1.000\nplace 4 2 1 0 0.500\nplace 5 2 0 0 1.000\nact 0 1 1 0 1.000\nact 1 1 1 0 1.000\nact 2 2 4 1 0.750\nact 3 1 1 0 1.000\njump 3 4 1\n";
     }
     ∷ []

@@ -10,26 +10,26 @@ use lib.ListN.{length, take, drop, take-append-drop, length-append, length-drop}
 use borrow.Author.Tests.{lt-ltb, le-ltb, ltb-true, ltb-false}
 use Rattle.words.specs.Lists.{pick, over}
 use Rattle.words.proofs.Over.{overAt, part, part-back, from-start, behind, length-overAt}
-use Rattle.lines.specs.Answer.{codeOf, sizeOf, lineCode, Writes}
+use Rattle.lines.specs.Answer.{lineAnswerCode, sizeOf, lineCode, Writes}
 use Rattle.lines.specs.declared.LineAnswer.{LineAnswer}
 use Rattle.report_parts.specs.Parts.{linesIn, lineAt, linesFrom, fitting, fits, partFrom, Puts}
 
 -- a line that was written, and one that was not
 module _ {line lent : List ℕ} {r : LineAnswer} {left : List ℕ} (w : Writes [] line lent r left) where
-  wrote : codeOf r ≡ 0 → (length line ≤ length lent) × (sizeOf r ≡ length line) × (left ≡ over line lent)
+  wrote : lineAnswerCode r ≡ 0 → (length line ≤ length lent) × (sizeOf r ≡ length line) × (left ≡ over line lent)
   unfolding lineCode
   wrote e = go (ltb (length lent) (length line)) (ltb-false _ _) (w .code) (w .size) (w .bytes)
     where
-      go : (t : Bool) → (t ≡ false → length line ≤ length lent) → codeOf r ≡ pick t 61 0 → sizeOf r ≡ pick (eqb (pick t 61 0) 0) (length line) 0
+      go : (t : Bool) → (t ≡ false → length line ≤ length lent) → lineAnswerCode r ≡ pick t 61 0 → sizeOf r ≡ pick (eqb (pick t 61 0) 0) (length line) 0
           → left ≡ pick (eqb (pick t 61 0) 0) (over line lent) lent → (length line ≤ length lent) × (sizeOf r ≡ length line) × (left ≡ over line lent)
       go true h c s l = absurd (omega arith)
       go false h c s l = (h refl, s, l)
 
-  left-out : (codeOf r ≡ 0 → ⊥) → (length lent < length line) × (left ≡ lent)
+  left-out : (lineAnswerCode r ≡ 0 → ⊥) → (length lent < length line) × (left ≡ lent)
   unfolding lineCode
   left-out n = go (ltb (length lent) (length line)) (ltb-true _ _) (w .code) (w .bytes)
     where
-      go : (t : Bool) → (t ≡ true → length lent < length line) → codeOf r ≡ pick t 61 0 → left ≡ pick (eqb (pick t 61 0) 0) (over line lent) lent
+      go : (t : Bool) → (t ≡ true → length lent < length line) → lineAnswerCode r ≡ pick t 61 0 → left ≡ pick (eqb (pick t 61 0) 0) (over line lent) lent
           → (length lent < length line) × (left ≡ lent)
       go true h c l = (h refl, l)
       go false h c l = absurd (n c)
@@ -157,13 +157,13 @@ module _ (b : List ℕ) (from : ℕ) (lent : List ℕ) where
       room : length (take (length out - at) (drop at out)) ≡ length lent - at
       room = ap length (part out at) ∙ length-drop at out ∙ ap (λ (n : ℕ). n - at) (P .same)
 
-      pub put-line : i < linesIn b → codeOf r ≡ 0 → (n : ℕ) → n ≡ sizeOf r
+      pub put-line : i < linesIn b → lineAnswerCode r ≡ 0 → (n : ℕ) → n ≡ sizeOf r
           → Putting b from lent (i + 1) (at + n) (take at out ++ (left ++ drop (length out - at) (drop at out)))
       put-line h e n q =
           let v = wrote w e in
           more (at + n) _ h (omega (arith, v .0, room)) (omega (arith, v .1)) (part-back out at (lineAt b i) left (v .2))
 
-      pub put-no-line : (codeOf r ≡ 0 → ⊥)
+      pub put-no-line : (lineAnswerCode r ≡ 0 → ⊥)
           → Puts b from lent (record { next = i; size = at }) (take at out ++ (left ++ drop (length out - at) (drop at out)))
       put-no-line n =
           let v = left-out w n in

@@ -15,7 +15,7 @@ use Rattle.replay.specs.Plain as plain
 use Rattle.trace_header.specs.Opening.{shapeTests}
 use Rattle.trace_reader.specs.declared.Answer.{Answer}
 use Rattle.trace_reader.specs.declared.Found.the-variants as found
-use Rattle.trace_reader.specs.Answers.{codeOf, nothing, unless}
+use Rattle.trace_reader.specs.Answers.{foundCode, nothing, unless}
 use Rattle.trace_reader.specs.Claims.{Handed, HandedOut}
 use Rattle.trace_reader.specs.Trace.{eventAt, endTests, readTests, eventFound, readCode, readFrom, readAtCode, readAt}
 use Rattle.words.proofs.Words.{length-at}
@@ -60,7 +60,7 @@ module _ (N : Net) (L : Loaded N) (ks : List ℕ) (accepted : ℕ) where
         let o = first-of-eight (wordsAt b (from + 8) (word b (from + 4))) (word b (from + 4)) (length-at b (from + 8) (word b (from + 4))) n in
         record {
           taken =
-              ap (λ (os : List ℕ). plain.refusal N ks 0 accepted (record { act = word b from; objs = os })) o
+              ap (λ (os : List ℕ). plain.refusal N ks 0 accepted (plain.eventOf (word b from) os)) o
               ∙ first-zero (plain.eventTests N ks 0 accepted (eventAt b from)) (t .0, (t .1 .0, (t .1 .1 .0, (t .1 .1 .1 .0, r .1 .1))));
           next = refl;
           few = n;
@@ -92,36 +92,36 @@ handed-out N L ks accepted f at p =
     (handed N L ks accepted f from (word f 12) at (sym (ap (λ (a : Answer). a .found) (s .1)) ∙ p))
 
 -- the number that an answer gives
-unless-code : (c : ℕ) (a : Answer) (at : ℕ) → codeOf (a .found) ≡ 0 → codeOf (unless c a at .found) ≡ c
+unless-code : (c : ℕ) (a : Answer) (at : ℕ) → foundCode (a .found) ≡ 0 → foundCode (unless c a at .found) ≡ c
 unless-code c a at z = go (ℕ-discrete c 0)
   where
-    go : Dec (c ≡ 0) → codeOf (unless c a at .found) ≡ c
+    go : Dec (c ≡ 0) → foundCode (unless c a at .found) ≡ c
     go (yes e) = rw (eq-eqb c 0 e) (z ∙ sym e)
     go (no m) = rw (ne-eqb c 0 m)
 
-pub read-code : (N : Net) (ks : List ℕ) (accepted : ℕ) (b : List ℕ) (from body at : ℕ) → codeOf (readFrom N ks accepted b from body at .found) ≡ readCode N ks accepted b from body at
+pub read-code : (N : Net) (ks : List ℕ) (accepted : ℕ) (b : List ℕ) (from body at : ℕ) → foundCode (readFrom N ks accepted b from body at .found) ≡ readCode N ks accepted b from body at
 unfolding readFrom readCode
 read-code N ks accepted b from body at = go (ℕ-discrete at body)
   where
-    go : Dec (at ≡ body) → codeOf (readFrom N ks accepted b from body at .found) ≡ readCode N ks accepted b from body at
+    go : Dec (at ≡ body) → foundCode (readFrom N ks accepted b from body at .found) ≡ readCode N ks accepted b from body at
     go (yes e) = rw (eq-eqb at body e) (unless-code (first (endTests b from)) (nothing found.End at) at refl)
     go (no m) = rw (ne-eqb at body m) (unless-code (first (readTests N ks accepted b from body at)) (eventFound b from at) at refl)
 
-pub read-at-code : (N : Net) (ks : List ℕ) (accepted : ℕ) (f : List ℕ) (at : ℕ) → codeOf (readAt N ks accepted f at .found) ≡ readAtCode N ks accepted f at
+pub read-at-code : (N : Net) (ks : List ℕ) (accepted : ℕ) (f : List ℕ) (at : ℕ) → foundCode (readAt N ks accepted f at .found) ≡ readAtCode N ks accepted f at
 unfolding readAt readAtCode
 read-at-code N ks accepted f at = go (ℕ-discrete (first (shapeTests f)) 0)
   where
-    go : Dec (first (shapeTests f) ≡ 0) → codeOf (readAt N ks accepted f at .found) ≡ readAtCode N ks accepted f at
+    go : Dec (first (shapeTests f) ≡ 0) → foundCode (readAt N ks accepted f at .found) ≡ readAtCode N ks accepted f at
     go (yes e) = rw (eq-eqb (first (shapeTests f)) 0 e) (read-code N ks accepted f (16 + word f 4 + at) (word f 12) at)
     go (no m) = rw (ne-eqb (first (shapeTests f)) 0 m)
 
 -- an answer that is a reading has the reading's number
 pub with-code : (N : Net) (ks : List ℕ) (accepted : ℕ) (b : List ℕ) (from body at : ℕ) {r : Answer}
     → r ≡ readFrom N ks accepted b from body at
-    → (r ≡ readFrom N ks accepted b from body at) × (codeOf (r .found) ≡ readCode N ks accepted b from body at)
-with-code N ks accepted b from body at e = (e, ap (λ (a : Answer). codeOf (a .found)) e ∙ read-code N ks accepted b from body at)
+    → (r ≡ readFrom N ks accepted b from body at) × (foundCode (r .found) ≡ readCode N ks accepted b from body at)
+with-code N ks accepted b from body at e = (e, ap (λ (a : Answer). foundCode (a .found)) e ∙ read-code N ks accepted b from body at)
 
 pub with-at-code : (N : Net) (ks : List ℕ) (accepted : ℕ) (f : List ℕ) (at : ℕ) {r : Answer}
     → r ≡ readAt N ks accepted f at
-    → (r ≡ readAt N ks accepted f at) × (codeOf (r .found) ≡ readAtCode N ks accepted f at)
-with-at-code N ks accepted f at e = (e, ap (λ (a : Answer). codeOf (a .found)) e ∙ read-at-code N ks accepted f at)
+    → (r ≡ readAt N ks accepted f at) × (foundCode (r .found) ≡ readAtCode N ks accepted f at)
+with-at-code N ks accepted f at e = (e, ap (λ (a : Answer). foundCode (a .found)) e ∙ read-at-code N ks accepted f at)

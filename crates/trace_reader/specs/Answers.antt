@@ -10,14 +10,14 @@ use Rattle.trace_reader.specs.declared.Found.{Found}
 use Rattle.trace_reader.specs.declared.Found.the-variants as found
 
 -- 0 for an event and for the end of the body, else the refusal's number
-abbrev pub codeOf : Found → ℕ
-codeOf found.Event = 0
-codeOf found.End = 0
-codeOf (found.Refused c) = c
+abbrev pub foundCode : Found → ℕ
+foundCode found.Event = 0
+foundCode found.End = 0
+foundCode (found.Refused c) = c
 
 -- the event that an answer holds: its activity, and the first `count` of the eight numbers
 abbrev pub eventIn : Event → plain.Event
-eventIn e = record { act = e .activity; objs = take (e .count) (e .objects) }
+eventIn e = plain.eventOf (e .activity) (take (e .count) (e .objects))
 
 -- an answer with no event: all of it is 0, and the cursor stays
 abbrev pub nothing : Found → ℕ → Answer

@@ -9,7 +9,7 @@ use Rattle.words.specs.Lists.{pick}
 use Rattle.words.specs.Refusals.{first}
 use Rattle.words.specs.Words.{word, wordsAt}
 use Rattle.net.specs.Net.{Net}
-use Rattle.replay.specs.Plain.{Event, trailTests, activityTests, objectTests}
+use Rattle.replay.specs.Plain.{Event, trailTests, activityTests, objectTests, eventOf}
 use Rattle.trace_header.specs.Opening.{shapeTests}
 use Rattle.trace_reader.specs.declared.Answer.{Answer}
 use Rattle.trace_reader.specs.declared.Found.the-variants as found
@@ -17,7 +17,7 @@ use Rattle.trace_reader.specs.Answers.{nothing, unless}
 
 -- the event whose first byte is byte i: activity, number of objects, objects
 abbrev pub eventAt : List ℕ → ℕ → Event
-eventAt b i = record { act = word b i; objs = wordsAt b (i + 8) (word b (i + 4)) }
+eventAt b i = eventOf (word b i) (wordsAt b (i + 8) (word b (i + 4)))
 
 -- Position `at` of the events body is byte `from` of the bytes b, with which the file ends. At the body's end: 73 where
 -- there are bytes behind it.

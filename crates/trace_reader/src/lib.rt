@@ -35,7 +35,7 @@ pub struct Event {
     pub objects: [u32; 8],
 }
 
-// What is found at a position. `codeOf` gives document 01's number.
+// What is found at a position. `foundCode` gives document 01's number.
 pub enum Found {
     Event,
     // The body ends here.
@@ -174,7 +174,7 @@ impl Cursor {
         requires { ⌜ Held (now t) ⌝ }
         requires { ⌜ KnownKinds (netIn (now t)) (wordsOf (now register)) ⌝ }
         ensures answer { λ r. ⌜ r ≡ readFrom (netIn (now (t .entry))) (wordsOf (now (register .entry))) accepted (now (window .entry)) 0 body (self .at) ⌝ }
-        ensures code { λ r. ⌜ answers.codeOf (r .found) ≡ readCode (netIn (now (t .entry))) (wordsOf (now (register .entry))) accepted (now (window .entry)) 0 body (self .at) ⌝ }
+        ensures code { λ r. ⌜ answers.foundCode (r .found) ≡ readCode (netIn (now (t .entry))) (wordsOf (now (register .entry))) accepted (now (window .entry)) 0 body (self .at) ⌝ }
     {
         let at = self.at;
         if at == body {
@@ -223,7 +223,7 @@ impl Cursor {
         requires { ⌜ Held (now t) ⌝ }
         requires { ⌜ KnownKinds (netIn (now t)) (wordsOf (now register)) ⌝ }
         ensures answer { λ r. ⌜ r ≡ readAt (netIn (now (t .entry))) (wordsOf (now (register .entry))) accepted (now (file .entry)) (self .at) ⌝ }
-        ensures code { λ r. ⌜ answers.codeOf (r .found) ≡ readAtCode (netIn (now (t .entry))) (wordsOf (now (register .entry))) accepted (now (file .entry)) (self .at) ⌝ }
+        ensures code { λ r. ⌜ answers.foundCode (r .found) ≡ readAtCode (netIn (now (t .entry))) (wordsOf (now (register .entry))) accepted (now (file .entry)) (self .at) ⌝ }
     {
         match read_contents(file) {
             Contents::Broken => nothing(Found::Refused(71), self.at),

@@ -21,8 +21,8 @@ table-is c =
     let e : 40 + c .wide .result - 40 ≡ word b 4 = omega (arith, c .wide .ensures, c .before .word-at .ensures) in
     ap (λ (n : ℕ). take n (drop 40 b)) e ∙ sym (table-part b (c .before .before .before .pre .0))
 
-code-is : (c : tie.After-number) → c .number .result ≡ loadCode (tableIn (c .before .before .before .before .before .before .before .args .rec .now))
-code-is c = c .number .ensures ∙ c .before .load-fresh .ensures .0 ∙ ap loadCode (table-is (c .before .before .before .before))
+code-is : (c : tie.After-code) → c .code .result ≡ loadCode (tableIn (c .before .before .before .before .before .before .before .args .rec .now))
+code-is c = c .code .ensures ∙ c .before .load-fresh .ensures .0 ∙ ap loadCode (table-is (c .before .before .before .before))
 
 -- where the table is taken, the words hold the record's net
 net-held : (c : tie.Else1) → Opened (c .before .before .before .before .before .before .before .before .args .rec .now) (c .before .before .load-fresh .last .1 .0)
@@ -55,8 +55,8 @@ part-load-fresh-end c = let s = c .before .before .before in let e = spread (s .
 load-fresh-requires : tie.Need-load-fresh-requires
 load-fresh-requires c κs = search needs
 
-number-requires : tie.Need-number-requires
-number-requires c κs = search needs
+code-requires : tie.Need-code-requires
+code-requires c κs = search needs
 
 returns : tie.Need-returns
 returns c =
@@ -81,7 +81,7 @@ check-table-spec =
     part-load-fresh-start
     part-load-fresh-end
     load-fresh-requires
-    number-requires
+    code-requires
     returns
     check-bodies-requires
     returns-2)

@@ -1,10 +1,10 @@
 -- A refused trail stops the call; else the answer is the call's own. Assumes nothing.
-use Rattle.replay_event.specs.Answers.{askEvent}
 use Rattle.client_check.specs.Objects.{objectsIn}
 use Rattle.client.proofs.Checks.{ask-stops, ask-goes}
 use borrow.Author.Needs.{needs}
 use Rattle.client.proofs.conform_event.Statement.{statement}
 use Rattle.client.proofs.conform_event.Tie as tie
+use Rattle.replay.specs.Plain.{askEvent}
 
 checked-requires : tie.Need-checked-requires
 checked-requires c κs = search needs

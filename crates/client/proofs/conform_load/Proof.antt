@@ -10,15 +10,15 @@ use Rattle.client.proofs.conform_load.Tie as tie
 load-fresh-requires : tie.Need-load-fresh-requires
 load-fresh-requires c κs = search needs
 
-number-requires : tie.Need-number-requires
-number-requires c κs = search needs
+code-requires : tie.Need-code-requires
+code-requires c κs = search needs
 
 pack-requires : tie.Need-pack-requires
 pack-requires c κs = search needs
 
 returns : tie.Need-returns
 unfolding loadAnswer
-returns c = c .pack .ensures ∙ ap (λ (n : ℕ). packed n 0) (c .before .number .ensures ∙ c .before .before .load-fresh .ensures .0)
+returns c = c .pack .ensures ∙ ap (λ (n : ℕ). packed n 0) (c .before .code .ensures ∙ c .before .before .load-fresh .ensures .0)
 
 pub conform-load-spec : {M : Type 1} → statement M
-conform-load-spec = tie.close (tie.spec load-fresh-requires number-requires pack-requires returns)
+conform-load-spec = tie.close (tie.spec load-fresh-requires code-requires pack-requires returns)

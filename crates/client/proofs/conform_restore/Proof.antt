@@ -10,8 +10,8 @@ use Rattle.client.proofs.conform_restore.Tie as tie
 restore-requires : tie.Need-restore-requires
 restore-requires c κs = search needs
 
-number-requires : tie.Need-number-requires
-number-requires c κs = search needs
+code-requires : tie.Need-code-requires
+code-requires c κs = search needs
 
 second-requires : tie.Need-second-requires
 second-requires c κs = search needs
@@ -25,13 +25,13 @@ same-length c = search needs
 returns : tie.Need-returns
 returns c = let a = c .before .before .before .before .before .before .before .before .before .before .args in
     let k = c .before .before .before .before .before .before .restore in
-    let e = c .before .before .before .number .ensures in
+    let e = c .before .before .before .code .ensures in
     let f = c .before .second .ensures in
     (restore-refused (a .saved .now) (length (a .trail .now)) (c .pack .result) _ _ (c .pack .ensures) (e ∙ k .ensures .0) (f ∙ k .ensures .1 .0) (c .before .before .if1 .taken), k .ensures .1 .1)
 
 cast-pack : tie.Need-cast-pack
 cast-pack c = let a = c .before .before .before .before .before .before .before .before .args in
-    omega (arith, restore-le (a .saved .now) (length (a .trail .now)) (sym (c .before .before .before .before .restore .ensures .0) ∙ sym (c .before .number .ensures) ∙ c .if1 .left))
+    omega (arith, restore-le (a .saved .now) (length (a .trail .now)) (sym (c .before .before .before .before .restore .ensures .0) ∙ sym (c .before .code .ensures) ∙ c .if1 .left))
 
 pack-requires-2 : tie.Need-pack-requires-2
 pack-requires-2 c κs = search needs
@@ -42,14 +42,14 @@ same-length-2 c = search needs
 returns-2 : tie.Need-returns-2
 returns-2 c = let a = c .before .before .before .before .before .before .before .before .before .args in
     let k = c .before .before .before .before .before .restore in
-    (restore-taken (a .saved .now) (length (a .trail .now)) (c .pack2 .result) (c .pack2 .ensures) (sym (k .ensures .0) ∙ sym (c .before .before .number .ensures) ∙ c .before .if1 .left), k .ensures .1 .1)
+    (restore-taken (a .saved .now) (length (a .trail .now)) (c .pack2 .result) (c .pack2 .ensures) (sym (k .ensures .0) ∙ sym (c .before .before .code .ensures) ∙ c .before .if1 .left), k .ensures .1 .1)
 
 pub conform-restore-spec : {M : Type 1} → statement M
 conform-restore-spec =
     tie.close
     (tie.spec
     restore-requires
-    number-requires
+    code-requires
     second-requires
     pack-requires
     same-length

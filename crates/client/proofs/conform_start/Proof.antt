@@ -12,20 +12,20 @@ use Rattle.net.specs.Limits.{netWords}
 load-fresh-requires : tie.Need-load-fresh-requires
 load-fresh-requires c κs = search needs
 
-number-requires : tie.Need-number-requires
-number-requires c κs = search needs
+code-requires : tie.Need-code-requires
+code-requires c κs = search needs
 
 pack-requires : tie.Need-pack-requires
 pack-requires c κs = search needs
 
 returns : tie.Need-returns
 returns c = let a = c .before .before .before .before .before .before .before .before .args in
-    let e = c .before .before .number .ensures ∙ c .before .before .before .load-fresh .ensures .0 in
+    let e = c .before .before .code .ensures ∙ c .before .before .before .load-fresh .ensures .0 in
     table-stops (a .table .now) (a .objects .now) (a .trail .now) (λ z. c .before .if1 .taken (e ∙ z)) _ _ e (c .pack .ensures)
 
 begin-requires : tie.Need-begin-requires
 begin-requires c κs = let k = c .before .before .before .before .load-fresh in
-    let z = sym (c .before .before .before .number .ensures ∙ k .ensures .0) ∙ c .before .before .if1 .left in
+    let z = sym (c .before .before .before .code .ensures ∙ k .ensures .0) ∙ c .before .before .if1 .left in
     loaded-tabled _ _ (length-replicate {A = ℕ} netWords 0) z _ (k .ensures .1 z)
 
 same-length : tie.Need-same-length
@@ -39,7 +39,7 @@ conform-start-spec =
     tie.close
     (tie.spec
     load-fresh-requires
-    number-requires
+    code-requires
     pack-requires
     returns
     begin-requires

@@ -2,7 +2,7 @@
 use Prim.Native.Nat.{ℕ}
 use mathlib.Core.Path.{_≡_, ap, sym, _∙_}
 use lib.ListN.{length, length-replicate}
-use Rattle.net.specs.Answer.{codeOf}
+use Rattle.net.specs.Answer.{loadAnswerCode}
 use Rattle.net.proofs.HeldLaws.{loaded-tabled}
 use Rattle.conform.proofs.Texts.{load-refused}
 use borrow.Author.Needs.{needs}
@@ -13,19 +13,19 @@ use Rattle.net.specs.Limits.{netWords}
 load-fresh-requires : tie.Need-load-fresh-requires
 load-fresh-requires c κs = search needs
 
-number-requires : tie.Need-number-requires
-number-requires c κs = search needs
+code-requires : tie.Need-code-requires
+code-requires c κs = search needs
 
 returns : tie.Need-returns
 returns c =
     let s = c .before .before .before .before .before .before in
-    (load-refused (s .args .table .now) (c .before .number .result) (s .args .rec .now) (c .before .number .ensures ∙ c .before .before .load-fresh .ensures .0) (c .if1 .taken), tt)
+    (load-refused (s .args .table .now) (c .before .code .result) (s .args .rec .now) (c .before .code .ensures ∙ c .before .before .load-fresh .ensures .0) (c .if1 .taken), tt)
 
 read-trail-requires : tie.Need-read-trail-requires
 read-trail-requires c κs =
     let s = c .before .before .before .before .before .before .before .before in
     let l = c .before .before .before .before .load-fresh in
-    let z : codeOf (l .result) ≡ 0 = sym (c .before .before .before .number .ensures) ∙ c .before .before .if1 .left in
+    let z : loadAnswerCode (l .result) ≡ 0 = sym (c .before .before .before .code .ensures) ∙ c .before .before .if1 .left in
     let y = sym (l .ensures .0) ∙ z in
     (loaded-tabled (s .args .table .now) (s .args .t .now) (ap length (s .pre .0) ∙ length-replicate {A = ℕ} netWords 0) y (l .last .1 .0) (l .ensures .1 y), s .pre .1)
 
@@ -38,4 +38,4 @@ returns-2 c = search needs
 pub decide-spec : {M : Type 1} → statement M
 decide-spec =
     tie.close
-    (tie.spec load-fresh-requires number-requires returns read-trail-requires same-length returns-2)
+    (tie.spec load-fresh-requires code-requires returns read-trail-requires same-length returns-2)

@@ -16,17 +16,17 @@ count-words-requires c κs = search needs
 load-fresh-requires : tie.Need-load-fresh-requires
 load-fresh-requires c κs = refl
 
-number-requires : tie.Need-number-requires
-number-requires c κs = search needs
+code-requires : tie.Need-code-requires
+code-requires c κs = search needs
 
 returns : tie.Need-returns
 returns c =
     let e = c .before .before .load-fresh .ensures .0 in
-    (e, refused-words _ _ (λ z. c .if1 .taken (c .before .number .ensures ∙ e ∙ z)))
+    (e, refused-words _ _ (λ z. c .if1 .taken (c .before .code .ensures ∙ e ∙ z)))
 
 -- the words that are loaded
 taken : (c : tie.Else1) → loadCode (c .before .before .before .before .before .before .before .args .s .now) ≡ 0
-taken c = sym (c .before .before .load-fresh .ensures .0) ∙ sym (c .before .number .ensures) ∙ c .if1 .left
+taken c = sym (c .before .before .load-fresh .ensures .0) ∙ sym (c .before .code .ensures) ∙ c .if1 .left
 
 words-are : (c : tie.Else1) → c .before .before .load-fresh .last .1 .0 ≡ loadedWords (c .before .before .before .before .before .before .before .args .s .now) (replicate netWords 0)
 words-are c = c .before .before .load-fresh .ensures .1 (taken c)
@@ -48,7 +48,7 @@ load-spec =
     (tie.spec
     count-words-requires
     load-fresh-requires
-    number-requires
+    code-requires
     returns
     copy-all-requires
     returns-2)

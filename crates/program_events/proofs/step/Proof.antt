@@ -7,7 +7,7 @@ use native.Mathlib.Omega.{arith}
 use lib.ListN.{length, take, drop}
 use Rattle.words.specs.Words.{wordsOf}
 use Rattle.net.specs.Held.{netIn}
-use Rattle.replay.specs.Plain.{Event, event, refusal}
+use Rattle.replay.specs.Plain.{Event, event, refusal, eventOf, askEvent}
 use Rattle.replay.specs.Calls.{askBytes}
 use Rattle.trace_reader.specs.Trace.{readFrom}
 use Rattle.program_events.specs.declared.Outcome.{Outcome}
@@ -58,8 +58,8 @@ handed-at c =
     ∙ read-bytes (s .args .t .now) (s .args .rec .now) (s .args .register .now) (s .args .spot .accepted) (s .pre .0) (s .args .window .now) from (s .args .body) (s .args .spot .at) (r .read-window .result) (answer-at r) f in
     record {
       objects = b;
-      taken = subst (λ (os : List ℕ). refusal (netIn (s .args .t .now)) (wordsOf (s .args .register .now)) 0 (s .args .spot .accepted) (record { act = e .activity; objs = os }) ≡ 0) (sym b) (h .taken);
-      room = event-room (s .args .t .now) (s .args .rec .now) (s .args .register .now) (s .args .spot .accepted) (s .pre .0) (record { act = e .activity; objs = take (e .count) (e .objects) }) (h .taken);
+      taken = subst (λ (os : List ℕ). refusal (netIn (s .args .t .now)) (wordsOf (s .args .register .now)) 0 (s .args .spot .accepted) (eventOf (e .activity) os) ≡ 0) (sym b) (h .taken);
+      room = event-room (s .args .t .now) (s .args .rec .now) (s .args .register .now) (s .args .spot .accepted) (s .pre .0) (eventOf (e .activity) (take (e .count) (e .objects))) (h .taken);
       there = omega (arith, h .there, c .wide .ensures);
     }
 
@@ -147,7 +147,7 @@ returns-3 c =
     let r = w .before .before .before .before .before in
     let a = r .read-window .result in
     let e = step-event (netIn (s .args .t .now)) (wordsOf (s .args .register .now)) (s .args .window .now) (s .args .body) (s .args .rec .now) (s .args .spot) a (answer-at r) (w .before .before .before .enum-told2 .given .1) in (
-      c .before .before .apply .ensures ∙ ap (λ (os : List ℕ). askBytes (s .args .rec .now) (event (record { act = a .event .activity; objs = os }))) (handed-at w .objects) ∙ e .0,
+      c .before .before .apply .ensures ∙ ap (λ (os : List ℕ). askBytes (s .args .rec .now) (askEvent (a .event .activity) os)) (handed-at w .objects) ∙ e .0,
       ap {B = Outcome} (λ (n : ℕ). record { spot = record { from = s .args .spot .from + 8 + 4 * n; at = a .next .at; accepted = s .args .spot .accepted + 1 }; over = false; code = 0 }) (w .wide .ensures) ∙ e .1,
     )
 

@@ -37,7 +37,7 @@ loop-holds : tie.Need-loop-holds Inv-loop μ-loop
 loop-holds c =
     let s = c .before in
     let z : s .args .lay .objects - 0 ≡ length (stateAt (s .args .rec .now) .kinds) = omega (arith, placed-at _ _ _ (s .pre .0) (s .pre .1) .kinds-size) in
-    (omega arith, omega arith, refl, record { state = stateAt (s .args .rec .now); sum = sum-start _ _ _ _ _ _ _ (walk-start _ _ _ (s .pre .0) (s .pre .1)) (omega arith) (omega (arith, placed-at _ _ _ (s .pre .0) (s .pre .1) .jumps-at)); same = refl; left = ap (λ (n : ℕ). afterLegs (netIn (s .args .t .now)) closeJumps (stateAt (s .args .rec .now)) (map (ending (netIn (s .args .t .now)) (stateAt (s .args .rec .now) .kinds)) (upto n 0))) z })
+    (omega arith, omega arith, refl, record { state = stateAt (s .args .rec .now); sum = sum-start _ _ _ _ _ _ _ (walk-start _ _ _ (s .pre .0) (s .pre .1)) (omega arith) (omega (arith, placed-at _ _ _ (s .pre .0) (s .pre .1) .pairs-at)); same = refl; left = ap (λ (n : ℕ). afterLegs (netIn (s .args .t .now)) closeJumps (stateAt (s .args .rec .now)) (map (ending (netIn (s .args .t .now)) (stateAt (s .args .rec .now) .kinds)) (upto n 0))) z })
 
 add-get-word : tie.Need-add-get-word Inv-loop μ-loop
 add-get-word c = let l = c .before .before .before .before .loop in omega (arith, register-in _ _ _ _ _ _ _ _ (l .inv .3 .sum) (l .o) (c .before .before .if1 .taken), sum-few _ _ _ _ _ _ _ _ (l .inv .3 .sum))

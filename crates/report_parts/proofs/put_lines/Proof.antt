@@ -8,7 +8,7 @@ use mathlib.Core.List.{[], _∷_}
 use native.Mathlib.Omega.{arith}
 use types.Run.{OneOf}
 use denote.Enum.Declared.{tagOf}
-use Rattle.lines.specs.Answer.{codeOf, sizeOf}
+use Rattle.lines.specs.Answer.{lineAnswerCode, sizeOf}
 use Rattle.lines.specs.declared.LineAnswer.{LineAnswer}
 use Rattle.lines.specs.declared.LineAnswer.the-variants.{Written, UnknownPlace, UnknownActivity, NoRoom}
 use Rattle.lines.proofs.LineAnswer.{the-type}
@@ -25,7 +25,7 @@ abbrev μ-loop : tie.MeasureT-loop
 μ-loop rec t from out₀ n i₀ at₀ out i at = n - i
 
 -- an answer that is not a line's size
-not-written : (r : LineAnswer) → OneOf (1 ∷ 2 ∷ 3 ∷ []) (tagOf the-type r) → codeOf r ≡ 0 → ⊥
+not-written : (r : LineAnswer) → OneOf (1 ∷ 2 ∷ 3 ∷ []) (tagOf the-type r) → lineAnswerCode r ≡ 0 → ⊥
 not-written (Written n) k e = ⊎-elim (λ e. omega arith) (λ k. ⊎-elim (λ e. omega arith) (λ e. omega arith) k) k
 not-written UnknownPlace k e = omega arith
 not-written UnknownActivity k e = omega arith
@@ -68,7 +68,7 @@ loop-again c =
     let l = c .before .before .before .before .before .before .before .before .loop in
     let told = c .before .size .given .1 in (
       l .inv .0,
-      put-line (a .rec .now) (a .from) (a .out .now) (l .i) (l .at) (l .out) (l .inv .1) _ _ (c .before .before .before .before .before .line .ensures) (omega arith) (ap codeOf told) _ (sym (ap sizeOf told)),
+      put-line (a .rec .now) (a .from) (a .out .now) (l .i) (l .at) (l .out) (l .inv .1) _ _ (c .before .before .before .before .before .line .ensures) (omega arith) (ap lineAnswerCode told) _ (sym (ap sizeOf told)),
     )
 
 -- the next line starts inside the lent part

@@ -3,12 +3,12 @@ use mathlib.Core.Path.{_≡_, subst}
 use mathlib.Core.List.{List}
 use Prim.Native.Nat.{ℕ}
 use Rattle.replay.specs.Calls.{askCode, askBytes}
-use Rattle.replay_event.specs.Answers.{askEvent}
 use Rattle.client_answers.specs.Answers.{packed}
 use Rattle.client_check.proofs.ObjectLaws.{told-rows, told-nine}
 use borrow.Author.Needs.{needs}
 use Rattle.client.proofs.calls.put_event.Statement.{statement}
 use Rattle.client.proofs.calls.put_event.Tie as tie
+use Rattle.replay.specs.Plain.{askEvent}
 
 -- an event of activity a with the objects xs is put to the trail b: its answer, and the bytes then
 abbrev Put : List ℕ → ℕ → ℕ → List ℕ → List ℕ → Type 0

@@ -2,7 +2,7 @@
 use Prim.Native.Nat.{ℕ}
 use mathlib.Core.Path.{_≡_, sym, ap, _∙_}
 use mathlib.Core.List.{List}
-use Rattle.net.specs.Answer.{codeOf}
+use Rattle.net.specs.Answer.{loadAnswerCode}
 use Rattle.net.specs.Table.{loadCode}
 use Rattle.net.specs.Held.{loadedWords, afterLoad}
 use borrow.Author.Needs.{needs}
@@ -30,7 +30,7 @@ put-net-requires c κs =
     let l = c .before .before .before .before in
     let s = l .before .before .before .before .before .args .s .now in
     let w = l .before .before .fill .last .0 in
-    let z : loadCode s ≡ 0 = sym (l .load .ensures .0) ∙ ap codeOf (c .before .enum-told .given .1) in
+    let z : loadCode s ≡ 0 = sym (l .load .ensures .0) ∙ ap loadAnswerCode (c .before .enum-told .given .1) in
     record { table = s; before = w; size = l .before .before .fill .ensures; taken = z; words = l .load .ensures .1 ∙ loaded s w z }
 
 put-words-requires : tie.Need-put-words-requires

@@ -2,13 +2,14 @@
 use mathlib.Core.Path.{_∙_}
 use native.Mathlib.Omega.{arith}
 use Rattle.words.specs.Words.{wordsOf}
-use Rattle.replay_event.specs.Answers.{askEvent, Moving}
+use Rattle.replay_event.specs.Answers.{Moving}
 use Rattle.replay_objects.proofs.RecordLaws.{ready-contents, ready-bytes}
 use Rattle.replay.proofs.Calls.{code-is, bytes-taken}
 use Rattle.replay_event.proofs.Taken.{can-take}
 use borrow.Author.Needs.{needs}
 use Rattle.replay_event.proofs.event.apply.Statement.{statement}
 use Rattle.replay_event.proofs.event.apply.Tie as tie
+use Rattle.replay.specs.Plain.{askEvent}
 
 moving : (c : tie.After-read-layout) → let s = c .before .before .before .before in Moving (s .args .t .now) (s .args .rec .now) (c .read-layout .result) (s .args .act) (wordsOf (s .args .objs .now))
 moving c = let s = c .before .before .before .before in can-take _ _ _ _ _ (s .pre .0) (c .read-layout .ensures) (code-is _ _ (s .pre .0) (askEvent (s .args .act) (wordsOf (s .args .objs .now))) ∙ s .pre .1)

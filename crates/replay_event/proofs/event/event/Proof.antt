@@ -9,7 +9,7 @@ use Rattle.words.specs.Words.{wordsOf}
 use Rattle.words.specs.Lists.{All}
 use denote.Enum.Declared.{tagOf}
 use Rattle.replay.specs.Calls.{askCode}
-use Rattle.replay_event.specs.Answers.{eventCode, askEvent}
+use Rattle.replay_event.specs.Answers.{eventAnswerCode}
 use Rattle.replay_event.specs.declared.event.EventAnswer.{EventAnswer}
 use Rattle.replay_event.specs.declared.event.EventAnswer.the-variants.{Taken, Closed, Full, Activity, Number, Object, Kind, TwoOfKind}
 use Rattle.replay_event.proofs.event.EventAnswer.{the-type}
@@ -19,10 +19,11 @@ use Rattle.replay_objects.proofs.RecordLaws.{ready-contents, ready-bytes}
 use borrow.Author.Needs.{needs}
 use Rattle.replay_event.proofs.event.event.Statement.{statement}
 use Rattle.replay_event.proofs.event.event.Tie as tie
+use Rattle.replay.specs.Plain.{askEvent}
 
 -- the tests refused nothing
-told : (c : tie.After-enum-told) → eventCode (c .before .before .refuse .result) ≡ 0
-told c = ap eventCode (c .enum-told .given .1)
+told : (c : tie.After-enum-told) → eventAnswerCode (c .before .before .refuse .result) ≡ 0
+told c = ap eventAnswerCode (c .enum-told .given .1)
 
 -- one of the other answers
 key-pos : (ks : List ℕ) → All (λ (k : ℕ). 0 < k) ks → (x : ℕ) → OneOf ks x → 0 < x
@@ -30,7 +31,7 @@ key-pos [] a x k = absurd k
 key-pos (j ∷ []) a x k = omega arith
 key-pos (j ∷ i ∷ ks) a x k = ⊎-elim (λ e. omega arith) (λ r. key-pos (i ∷ ks) (a .1) x r) k
 
-not-taken : (r : EventAnswer) → OneOf (1 ∷ 2 ∷ 3 ∷ 4 ∷ 5 ∷ 6 ∷ 7 ∷ []) (tagOf the-type r) → eventCode r ≡ 0 → ⊥
+not-taken : (r : EventAnswer) → OneOf (1 ∷ 2 ∷ 3 ∷ 4 ∷ 5 ∷ 6 ∷ 7 ∷ []) (tagOf the-type r) → eventAnswerCode r ≡ 0 → ⊥
 not-taken Taken k e = omega (arith, key-pos (1 ∷ 2 ∷ 3 ∷ 4 ∷ 5 ∷ 6 ∷ 7 ∷ []) (omega arith) 0 k)
 not-taken Closed k e = omega arith
 not-taken Full k e = omega arith
@@ -65,7 +66,7 @@ same-length-2 c = search needs
 
 returns-2 : tie.Need-returns-2
 returns-2 c = let s = c .before .before .before .before .before .before .before in let q = askEvent (s .args .act) (wordsOf (s .args .objs .now)) in
-    let e : eventCode (c .before .refuse .result) ≡ askCode (s .args .rec .now) q = c .before .refuse .ensures ∙ code-is _ _ (s .pre) q in
+    let e : eventAnswerCode (c .before .refuse .result) ≡ askCode (s .args .rec .now) q = c .before .refuse .ensures ∙ code-is _ _ (s .pre) q in
     (e, bytes-refused _ _ (s .pre) q (λ z. not-taken (c .before .refuse .result) (c .match .keys2) (e ∙ z)))
 
 pub event-spec : {M : Type 1} → statement M

@@ -7,7 +7,7 @@ use lib.ListN.{length, getD, drop}
 use Rattle.words.specs.Words.{wordsOf}
 use Rattle.words.proofs.Words.{length-words}
 use Rattle.net.specs.Held.{netIn}
-use Rattle.replay.specs.Plain.{legs}
+use Rattle.replay.specs.Plain.{legs, eventOf}
 use Rattle.replay.specs.State.{actJumps, afterLegs}
 use Rattle.replay.specs.Record.{tableIn}
 use Rattle.replay.specs.Calls.{stateAt}
@@ -22,7 +22,7 @@ use Rattle.replay_event.proofs.event.step_objects.Tie as tie
 abbrev Inv-loop : tie.InvT-loop
 Inv-loop rec₀ t lay act objs n done₀ jumps₀ rec done jumps =
     (done ≤ length (wordsOf objs)) × (jumps ≤ done) × (length rec ≡ length rec₀)
-    × Stepping (netIn t) (tableIn rec₀) lay (8001025 + done) act (stateAt rec₀ .kinds) (drop done (wordsOf objs)) (afterLegs (netIn t) actJumps (stateAt rec₀) (legs (netIn t) (stateAt rec₀ .kinds) (record { act = act; objs = wordsOf objs }))) jumps (wordsOf rec)
+    × Stepping (netIn t) (tableIn rec₀) lay (8001025 + done) act (stateAt rec₀ .kinds) (drop done (wordsOf objs)) (afterLegs (netIn t) actJumps (stateAt rec₀) (legs (netIn t) (stateAt rec₀ .kinds) (eventOf act (wordsOf objs)))) jumps (wordsOf rec)
 
 abbrev μ-loop : tie.MeasureT-loop
 μ-loop rec₀ t lay act objs n done₀ jumps₀ rec done jumps = n - done

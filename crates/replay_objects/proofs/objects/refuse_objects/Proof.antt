@@ -12,21 +12,21 @@ use Rattle.words.specs.Words.{wordsOf}
 use Rattle.words.proofs.Refusals.{first-then, first-stays}
 use Rattle.words.proofs.Words.{length-words}
 use Rattle.net.specs.Held.{netIn}
-use Rattle.replay.specs.Plain.{kindsOf, knownTests, sameKindTests, objectTests}
+use Rattle.replay.specs.Plain.{objectKinds, knownTests, sameKindTests, objectTests}
 use Rattle.replay_objects.proofs.ObjectLaws.{kinds-length, kinds-front}
 use borrow.Author.Needs.{needs}
 use Rattle.replay_objects.proofs.objects.refuse_objects.Statement.{statement}
 use Rattle.replay_objects.proofs.objects.refuse_objects.Tie as tie
 
 -- the objects' kinds are stored
-stored : (c : tie.Else1) → c .before .take-kinds .last .1 .1 .1 .1 .0 ≡ sets (replicate 8 0) 0 (kindsOf (wordsOf (c .before .before .before .before .before .args .register .now)) (wordsOf (c .before .before .before .before .before .args .objs .now)))
+stored : (c : tie.Else1) → c .before .take-kinds .last .1 .1 .1 .1 .0 ≡ sets (replicate 8 0) 0 (objectKinds (wordsOf (c .before .before .before .before .before .args .register .now)) (wordsOf (c .before .before .before .before .before .args .objs .now)))
 stored c = c .before .take-kinds .ensures .1 (c .if1 .left)
 
 size : (c : tie.Else1) → length (c .before .take-kinds .last .1 .1 .1 .1 .0) ≡ 8
 size c = let s = c .before .before .before .before .before in
     kinds-length (wordsOf (s .args .register .now)) (wordsOf (s .args .objs .now)) (replicate 8 0) _ refl (s .pre .1 .1 .0) (stored c)
 
-front : (c : tie.Else1) → take (length (wordsOf (c .before .before .before .before .before .args .objs .now))) (c .before .take-kinds .last .1 .1 .1 .1 .0) ≡ kindsOf (wordsOf (c .before .before .before .before .before .args .register .now)) (wordsOf (c .before .before .before .before .before .args .objs .now))
+front : (c : tie.Else1) → take (length (wordsOf (c .before .before .before .before .before .args .objs .now))) (c .before .take-kinds .last .1 .1 .1 .1 .0) ≡ objectKinds (wordsOf (c .before .before .before .before .before .args .register .now)) (wordsOf (c .before .before .before .before .before .args .objs .now))
 front c = let s = c .before .before .before .before .before in
     kinds-front (wordsOf (s .args .register .now)) (wordsOf (s .args .objs .now)) (replicate 8 0) _ refl (s .pre .1 .1 .0) (stored c)
 

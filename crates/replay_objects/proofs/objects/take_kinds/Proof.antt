@@ -10,7 +10,7 @@ use borrow.Author.Tests.{eq-eqb, ne-eqb}
 use Rattle.words.specs.Words.{wordsOf}
 use Rattle.words.proofs.Words.{length-words}
 use Rattle.net.specs.Held.{netIn}
-use Rattle.replay.specs.Plain.{kindsOf}
+use Rattle.replay.specs.Plain.{objectKinds}
 use Rattle.replay_objects.proofs.ObjectLaws.{next, foreignCode, foreign-more, kindsLeft, left-unknown, left-known, left-none, store-one}
 use Rattle.replay_objects.proofs.objects.take_kinds.Statement.{statement}
 use Rattle.replay_objects.proofs.objects.take_kinds.Tie as tie
@@ -19,7 +19,7 @@ abbrev Inv-loop : tie.InvT-loop
 Inv-loop objs act register t kinds₀ size n others₀ i₀ kinds others i =
     (i ≤ length (wordsOf objs)) × (others ≤ i)
     × (kindsLeft (netIn t) (wordsOf register) act (drop i (wordsOf objs)) (foreignCode others) ≡ kindsLeft (netIn t) (wordsOf register) act (wordsOf objs) 0)
-    × (sets kinds i (kindsOf (wordsOf register) (drop i (wordsOf objs))) ≡ sets kinds₀ 0 (kindsOf (wordsOf register) (wordsOf objs)))
+    × (sets kinds i (objectKinds (wordsOf register) (drop i (wordsOf objs))) ≡ sets kinds₀ 0 (objectKinds (wordsOf register) (wordsOf objs)))
 
 abbrev μ-loop : tie.MeasureT-loop
 μ-loop objs act register t kinds₀ size n others₀ i₀ kinds others i = n - i
@@ -84,7 +84,7 @@ loop-again c =
       omega arith,
       omega (arith, l .inv, c .foreign .ensures .1),
       rw (c .foreign .ensures .0, foreign-more, c .before .wide2 .ensures, kind-is (c .before .before)) (left-known (netIn (a .t .now)) (wordsOf (a .register .now)) (a .act) (foreignCode (l .others)) (drop (l .i) os) x (drop (l .i + 1) os) e (omega (arith, known (c .before .before .before), object-is (c .before .before .before .before)))) ∙ l .inv .2,
-      store-one (l .kinds) (l .i) (c .before .before .get-word2 .result) (getD (wordsOf (a .register .now)) x 0) (kindsOf (wordsOf (a .register .now)) (drop (l .i + 1) os)) (kindsOf (wordsOf (a .register .now)) (drop (l .i) os)) (ap (kindsOf (wordsOf (a .register .now))) e) (kind-is (c .before .before)) ∙ l .inv .3,
+      store-one (l .kinds) (l .i) (c .before .before .get-word2 .result) (getD (wordsOf (a .register .now)) x 0) (objectKinds (wordsOf (a .register .now)) (drop (l .i + 1) os)) (objectKinds (wordsOf (a .register .now)) (drop (l .i) os)) (ap (objectKinds (wordsOf (a .register .now))) e) (kind-is (c .before .before)) ∙ l .inv .3,
     )
 
 -- no object is left: the foreign kinds decide, and the kinds are stored
@@ -94,11 +94,11 @@ decided c =
     let e : drop (l .i) (wordsOf (a .objs .now)) ≡ [] = drop-of-length-le (wordsOf (a .objs .now)) {i = l .i} (omega (arith, length-words (a .objs .now), c .loop-test .left)) in
     left-none (netIn (a .t .now)) (wordsOf (a .register .now)) (a .act) (foreignCode (l .others)) (drop (l .i) (wordsOf (a .objs .now))) e ∙ l .inv .2
 
-stored : (c : tie.After-loop Inv-loop μ-loop) → c .before .loop .kinds ≡ sets (c .before .before .before .before .args .kinds .now) 0 (kindsOf (wordsOf (c .before .before .before .before .args .register .now)) (wordsOf (c .before .before .before .before .args .objs .now)))
+stored : (c : tie.After-loop Inv-loop μ-loop) → c .before .loop .kinds ≡ sets (c .before .before .before .before .args .kinds .now) 0 (objectKinds (wordsOf (c .before .before .before .before .args .register .now)) (wordsOf (c .before .before .before .before .args .objs .now)))
 stored c =
     let a = c .before .before .before .before .args in let l = c .before .loop in
     let e : drop (l .i) (wordsOf (a .objs .now)) ≡ [] = drop-of-length-le (wordsOf (a .objs .now)) {i = l .i} (omega (arith, length-words (a .objs .now), c .loop-test .left)) in
-    sym (ap (λ (xs : List ℕ). sets (l .kinds) (l .i) (kindsOf (wordsOf (a .register .now)) xs)) e) ∙ l .inv .3
+    sym (ap (λ (xs : List ℕ). sets (l .kinds) (l .i) (objectKinds (wordsOf (a .register .now)) xs)) e) ∙ l .inv .3
 
 returns-2 : tie.Need-returns-2 Inv-loop μ-loop
 returns-2 c = (rw (ne-eqb _ 0 (c .if2 .taken)) at (decided (c .before)), λ f. absurd (omega arith))
