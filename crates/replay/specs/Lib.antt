@@ -6,6 +6,7 @@ pub mod Permitted
 pub mod Plain
 pub mod Ready
 pub mod Record
+pub mod Register
 pub mod Rows
 pub mod Sound
 pub mod State
