@@ -1,4 +1,5 @@
 pub mod Restore
+pub mod Bodies
 pub mod Calls
 pub mod Demand
 pub mod Rows

@@ -3,24 +3,25 @@ use mathlib.Core.Bool.{Bool}
 use mathlib.Core.List.{[]}
 use mathlib.Core.Path.{_≡_, ap, sym, _∙_}
 use lib.ListN.{length}
-use Rattle.words.specs.Words.{wordsOf}
 use Rattle.net.specs.Held.{netIn}
 use Rattle.replay.specs.Plain.{registerCode}
+use Rattle.replay.specs.Register.{kindsIn}
+use Rattle.checkpoint.specs.Bodies.{bodyState, hit}
 use Rattle.checkpoint.specs.Restore.{tests45}
-use Rattle.checkpoint_judge.specs.Judge.{hit, bodyState, closedBy}
-use Rattle.checkpoint_judge.proofs.Counting.{counted}
+use Rattle.checkpoint_counts.proofs.Counting.{counted}
+use Rattle.checkpoint_judge.specs.Judge.{closedBy}
 use Rattle.checkpoint_judge.proofs.Verdicts.{judge-rows, judge-register, judge-positions, judge-counts, judge-jumps, judge-taken}
 use borrow.Author.Needs.{needs}
 use Rattle.checkpoint_judge.proofs.judge.Statement.{statement}
 use Rattle.checkpoint_judge.proofs.judge.Tie as tie
 
-registered : (c : tie.Else2) → registerCode (netIn (c .before .before .before .before .before .before .before .args .t .now)) (wordsOf (c .before .before .before .before .before .before .before .args .ks .now)) ≡ 0
+registered : (c : tie.Else2) → registerCode (netIn (c .before .before .before .before .before .before .before .args .t .now)) (kindsIn (netIn (c .before .before .before .before .before .before .before .args .t .now)) (c .before .before .before .before .before .before .before .args .ks .now)) ≡ 0
 registered c = sym (c .before .register-refusal .ensures) ∙ c .if2 .left
 
-positions-are : (c : tie.After-bad-positions) → c .bad-positions .result ≡ hit (tests45 (netIn (c .before .before .before .before .before .before .before .before .before .args .t .now)) (bodyState (c .before .before .before .before .before .before .before .before .before .args .ks .now) (c .before .before .before .before .before .before .before .before .before .args .ps .now) [] []) (length (c .before .before .before .before .before .before .before .before .before .args .ps .now)) (closedBy (c .before .before .before .before .before .before .before .before .before .args .cs .now)))
+positions-are : (c : tie.After-bad-positions) → c .bad-positions .result ≡ hit (tests45 (netIn (c .before .before .before .before .before .before .before .before .before .args .t .now)) (bodyState (netIn (c .before .before .before .before .before .before .before .before .before .args .t .now)) (c .before .before .before .before .before .before .before .before .before .args .ks .now) (c .before .before .before .before .before .before .before .before .before .args .ps .now) [] []) (length (c .before .before .before .before .before .before .before .before .before .args .ps .now)) (closedBy (c .before .before .before .before .before .before .before .before .before .args .cs .now)))
 positions-are c =
     let a = c .before .before .before .before .before .before .before .before .before .args in
-    c .bad-positions .ensures ∙ ap (λ (b : Bool). hit (tests45 (netIn (a .t .now)) (bodyState (a .ks .now) (a .ps .now) [] []) (length (a .ps .now)) b)) (c .before .begins-closed .ensures)
+    c .bad-positions .ensures ∙ ap (λ (b : Bool). hit (tests45 (netIn (a .t .now)) (bodyState (netIn (a .t .now)) (a .ks .now) (a .ps .now) [] []) (length (a .ps .now)) b)) (c .before .begins-closed .ensures)
 
 returns : tie.Need-returns
 returns c = let s = c .before .before .before .before .before in judge-rows (netIn (s .args .t .now)) (s .args .ks .now) (s .args .ps .now) (s .args .cs .now) (s .args .js .now) (c .if1 .taken)
