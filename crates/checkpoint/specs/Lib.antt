@@ -2,6 +2,5 @@ pub mod Restore
 pub mod Bodies
 pub mod Calls
 pub mod Demand
-pub mod Rows
 pub mod Answers
 pub mod Take
