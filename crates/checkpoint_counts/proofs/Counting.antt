@@ -15,11 +15,10 @@ use Rattle.words.proofs.Refusals.{None}
 use Rattle.words.proofs.Sums.{sumTo-same}
 use Rattle.words.proofs.Words.{length-words}
 use Rattle.net.specs.Net.{Net}
-use Rattle.replay.specs.Plain.{registerCode}
+use Rattle.replay.specs.Plain.{closers, registerCode}
 use Rattle.replay.specs.Register.{kindsIn}
 use Rattle.replay.specs.State.{evens, odds}
 use Rattle.replay.specs.Record.{countsSize}
-use Rattle.replay.proofs.Accepted.{closers-length}
 use Rattle.replay.proofs.Interleave.{evens-at, odds-at}
 use Rattle.checkpoint.specs.Bodies.{bodyState, hit}
 use Rattle.checkpoint.specs.Restore.{tests46}
@@ -76,8 +75,8 @@ module _ (N : Net) (ks cs : List ℕ) (size : ℕ) where
           pub counts-above : above ≡ true → true ≡ answer
           counts-above t = rw (eq-eqb size (4 * countsSize N) e, le-ltb 1 (W 0) f, le-ltb 1000000 (W 1) g, fired-is, eq-eqb fired (W 1) s, above-is, t)
 
-          pub counts-closing : above ≡ false → either (ltb (length (kindsIn N ks)) (W 2) ∷ both (eqb (W 0) 0) (not (eqb (W 2) 0)) ∷ []) ≡ answer
-          counts-closing t = rw (eq-eqb size (4 * countsSize N) e, le-ltb 1 (W 0) f, le-ltb 1000000 (W 1) g, fired-is, eq-eqb fired (W 1) s, above-is, t, closers-length (kindsIn N ks))
+          pub counts-closing : above ≡ false → either (ltb (length (closers (kindsIn N ks))) (W 2) ∷ both (eqb (W 0) 0) (not (eqb (W 2) 0)) ∷ []) ≡ answer
+          counts-closing t = rw (eq-eqb size (4 * countsSize N) e, le-ltb 1 (W 0) f, le-ltb 1000000 (W 1) g, fired-is, eq-eqb fired (W 1) s, above-is, t)
 
 -- a register to which 44 does not apply, with counts to which 46 does not
 pub counted : (N : Net) (ks cs : List ℕ) → registerCode N (kindsIn N ks) ≡ 0 → hit (tests46 N (bodyState N ks [] cs []) (length cs)) ≡ false → Counted N ks cs

@@ -66,7 +66,7 @@ fn some_jumps_above(cs: &[u8], t: &NetWords) -> bool
     false
 }
 
-// Closing jumps above the register size, or not 0 while open.
+// Closing jumps above the number of objects that the close takes (`closers`: the register size), or not 0 while open.
 fn bad_closing(closed: u32, closing: u32, objects: usize) -> bool
     ensures { λ r. ⌜ r ≡ either (ltb objects closing ∷ both (eqb closed 0) (not (eqb closing 0)) ∷ []) ⌝ }
 {

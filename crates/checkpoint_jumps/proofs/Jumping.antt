@@ -14,9 +14,9 @@ use Rattle.words.proofs.Lists.{anyTo-none, anyTo-false, is-eq, not-eqb, both-fa
 use Rattle.words.proofs.Sums.{sumTo-same}
 use Rattle.net.specs.Net.{Net}
 use Rattle.net.proofs.Scan.{either-one}
+use Rattle.replay.specs.Plain.{closerKinds}
 use Rattle.replay.specs.Register.{kindsIn}
-use Rattle.replay.specs.State.{inputs, sunkOn, storedConsumed, evens, odds}
-use Rattle.replay.proofs.Accepted.{closers-kinds}
+use Rattle.replay.specs.State.{inputs, sunkOn, storedConsumed, odds}
 use Rattle.checkpoint.specs.Bodies.{bodyState, hit}
 use Rattle.checkpoint.specs.Restore.{apart, tests47}
 use Rattle.checkpoint_counts.proofs.Searches.{same-false}
@@ -55,9 +55,8 @@ module _ (N : Net) (js : List ℕ) where
 
 -- TAKEN of place q
 pub consumed-is : (N : Net) (ks cs : List ℕ) (q : ℕ)
-    → sumTo (N .acts) (λ (a : ℕ). getD (wordsOf cs) (3 + 2 * a) 0 * inputs N q a) + getD (wordsOf cs) 0 0 * sunkOn N (kindsIn N ks) q ≡ storedConsumed N (bodyState N ks [] cs []) q
-consumed-is N ks cs q = ap (λ (n : ℕ). n + getD (wordsOf cs) 0 0 * sunkOn N (kindsIn N ks) q) (sumTo-same (N .acts) _ _ (λ a h. ap (λ (v : ℕ). v * inputs N q a) (sym (fired-at (wordsOf cs) a))))
-    ∙ ap (λ (x : List ℕ). sumTo (N .acts) (λ (a : ℕ). getD (evens (drop 3 (wordsOf cs))) a 0 * inputs N q a) + getD (wordsOf cs) 0 0 * sunkOn N x q) (sym (closers-kinds (kindsIn N ks)))
+    → sumTo (N .acts) (λ (a : ℕ). getD (wordsOf cs) (3 + 2 * a) 0 * inputs N q a) + getD (wordsOf cs) 0 0 * sunkOn N (closerKinds (kindsIn N ks)) q ≡ storedConsumed N (bodyState N ks [] cs []) q
+consumed-is N ks cs q = ap (λ (n : ℕ). n + getD (wordsOf cs) 0 0 * sunkOn N (closerKinds (kindsIn N ks)) q) (sumTo-same (N .acts) _ _ (λ a h. ap (λ (v : ℕ). v * inputs N q a) (sym (fired-at (wordsOf cs) a))))
 
 -- 47, of a register, a counts body and a jumps body of `size` bytes
 module _ (N : Net) (ks cs js : List ℕ) (size : ℕ) where

@@ -13,7 +13,7 @@ ghost use lib.ListN.{length, getD};
 ghost use Rattle.words.specs.Lists.{pick, anyTo, sumTo};
 ghost use Rattle.words.specs.Words.{wordsOf};
 ghost use Rattle.net.specs.Held.{netIn, Held};
-ghost use Rattle.replay.specs.Plain.{registerCode};
+ghost use Rattle.replay.specs.Plain.{closerKinds, registerCode};
 ghost use Rattle.replay.specs.Register.{kindsIn};
 ghost use Rattle.replay.specs.State.{inputs, sunkOn, storedConsumed};
 ghost use Rattle.replay.specs.Record.{countsSize};
@@ -137,12 +137,12 @@ fn take_inputs(cs: &[u8], t: &NetWords, taken: &mut [u64; 64])
     }
 }
 
-// What the close takes: each object from its sink.
+// What the close takes: each of its objects (`closers`: the whole register) from its sink.
 fn take_sinks(ks: &[u8], t: &NetWords, taken: &mut [u64; 64])
     requires { ⌜ Held (now t) ⌝ }
     requires { ⌜ registerCode (netIn (now t)) (kindsIn (netIn (now t)) (now ks)) ≡ 0 ⌝ }
     requires { ⌜ AtMost (netIn (now t) .places) 2199023255552 (now taken) ⌝ }
-    ensures { λ _. ⌜ Added (netIn (now (t .entry)) .places) (now (taken .entry)) (now (taken .exit)) (sunkOn (netIn (now (t .entry))) (kindsIn (netIn (now (t .entry))) (now (ks .entry)))) ⌝ }
+    ensures { λ _. ⌜ Added (netIn (now (t .entry)) .places) (now (taken .entry)) (now (taken .exit)) (sunkOn (netIn (now (t .entry))) (closerKinds (kindsIn (netIn (now (t .entry))) (now (ks .entry))))) ⌝ }
 {
     let n = ks.len() / 4;
     let mut i = 0;
@@ -158,7 +158,7 @@ fn take_closed(ks: &[u8], closed: u32, t: &NetWords, taken: &mut [u64; 64])
     requires { ⌜ Held (now t) ⌝ }
     requires { ⌜ (registerCode (netIn (now t)) (kindsIn (netIn (now t)) (now ks)) ≡ 0) × (closed ≤ 1) ⌝ }
     requires { ⌜ AtMost (netIn (now t) .places) 2199023255552 (now taken) ⌝ }
-    ensures { λ _. ⌜ Added (netIn (now (t .entry)) .places) (now (taken .entry)) (now (taken .exit)) (λ (q : ℕ). closed * sunkOn (netIn (now (t .entry))) (kindsIn (netIn (now (t .entry))) (now (ks .entry))) q) ⌝ }
+    ensures { λ _. ⌜ Added (netIn (now (t .entry)) .places) (now (taken .entry)) (now (taken .exit)) (λ (q : ℕ). closed * sunkOn (netIn (now (t .entry))) (closerKinds (kindsIn (netIn (now (t .entry))) (now (ks .entry)))) q) ⌝ }
 {
     if closed == 0 {
         return;

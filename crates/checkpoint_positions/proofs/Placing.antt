@@ -7,10 +7,11 @@ use native.Mathlib.Decide.{ℕ-discrete}
 use lib.ListN.{length, getD}
 use lib.Dec.{leb, eqb}
 use borrow.Author.Tests.{eq-eqb, ne-eqb, le-leb, lt-leb}
-use Rattle.words.specs.Lists.{pick, any, either, anyTo, upto, both}
+use Rattle.words.specs.Lists.{pick, any, either, anyTo, both}
 use Rattle.words.proofs.Lists.{both-false}
 use Rattle.net.specs.Net.{Net, Loaded}
 use Rattle.net.proofs.Scan.{either-one}
+use Rattle.replay.specs.Plain.{closers}
 use Rattle.replay.specs.State.{State}
 use Rattle.checkpoint.specs.Bodies.{hit}
 use Rattle.checkpoint.specs.Restore.{tests45}
@@ -57,7 +58,7 @@ module _ {A : Type 0} (f g h : A → Bool) (c : Bool) where
   three [] = rw (both-false c false (λ q. refl))
   three (x ∷ xs) = rw (three xs) (or-swap (f x) (any f xs) (g x) (any g xs) (both c (h x)) (both c (any h xs)) ∙ ap (λ (b : Bool). either (pick (f x) true (any f xs) ∷ pick (g x) true (any g xs) ∷ b ∷ [])) (or-both c (h x) (any h xs)))
 
--- the whole test: by its length, and object by object
+-- the whole test: by its length, and object by object; the close takes every object
 module _ (N : Net) (d : State) (size : ℕ) (closed : Bool) where
   pub positions-size : (size ≡ 4 * length (d .kinds) → ⊥) → true ≡ hit (tests45 N d size closed)
   positions-size n = rw (ne-eqb size (4 * length (d .kinds)) n)
@@ -66,4 +67,4 @@ module _ (N : Net) (d : State) (size : ℕ) (closed : Bool) where
   positions-hit e =
       rw (eq-eqb size (4 * length (d .kinds)) e)
       (three (λ (o : ℕ). leb (N .places) (getD (d .places) o 0)) (λ (o : ℕ). not (eqb (N .kindOf (getD (d .places) o 0)) (getD (d .kinds) o 0)))
-      (λ (o : ℕ). not (eqb (getD (d .places) o 0) (N .sink (getD (d .kinds) o 0)))) closed (upto (length (d .kinds)) 0))
+      (λ (o : ℕ). not (eqb (getD (d .places) o 0) (N .sink (getD (d .kinds) o 0)))) closed (closers (d .kinds)))

@@ -29,7 +29,8 @@ fn bad_position(t: &NetWords, k: usize, p: usize, closed: bool) -> bool
     net_lookup::kind_of(t, p) != k
 }
 
-// 45: one row for each object, each on a known place of its kind, and on its sink in a closed trail.
+// 45: one row for each object, each on a known place of its kind, and on its sink in a closed trail,
+// whose close took every object (`closers`).
 pub fn bad_positions(ks: &[u8], ps: &[u8], t: &NetWords, closed: bool) -> bool
     requires { ⌜ Held (now t) ⌝ }
     requires { ⌜ registerCode (netIn (now t)) (kindsIn (netIn (now t)) (now ks)) ≡ 0 ⌝ }

@@ -10,7 +10,10 @@ use Rattle.words.specs.Words.{wordsOf}
 use Rattle.words.proofs.Words.{length-words}
 use Rattle.net.specs.Held.{netIn}
 use Rattle.net.proofs.HeldLaws.{held-loaded}
+use Rattle.replay.specs.Plain.{closers}
+use Rattle.replay.specs.Register.{kindsIn}
 use Rattle.replay.specs.Record.{countsSize}
+use Rattle.replay.proofs.Accepted.{closers-length}
 use Rattle.checkpoint_counts.proofs.Counting.{counts-size, counts-flag, counts-events, counts-fired, counts-above, counts-closing}
 use native.Mathlib.Omega.{arith}
 use borrow.Author.Needs.{needs}
@@ -86,8 +89,8 @@ bad-closing-requires c κs = search needs
 returns-6 : tie.Need-returns-6
 returns-6 c =
     let s = c .before .before .before .before .before .before .before .before .before .before .before .before .before .before .before in
-    c .bad-closing .ensures ∙ ap (λ (n : ℕ). either (ltb n (c .before .get-word3 .result) ∷ both (eqb (c .before .before .before .before .before .before .before .before .before .before .get-word .result) 0) (not (eqb (c .before .get-word3 .result) 0)) ∷ [])) (sym (length-words (s .args .ks .now)))
-    ∙ ap₂ (λ (x y : ℕ). either (ltb (length (wordsOf (s .args .ks .now))) y ∷ both (eqb x 0) (not (eqb y 0)) ∷ [])) (c .before .before .before .before .before .before .before .before .before .before .get-word .ensures) (c .before .get-word3 .ensures)
+    c .bad-closing .ensures ∙ ap (λ (n : ℕ). either (ltb n (c .before .get-word3 .result) ∷ both (eqb (c .before .before .before .before .before .before .before .before .before .before .get-word .result) 0) (not (eqb (c .before .get-word3 .result) 0)) ∷ [])) (sym (closers-length (kindsIn (netIn (s .args .t .now)) (s .args .ks .now)) ∙ length-words (s .args .ks .now)))
+    ∙ ap₂ (λ (x y : ℕ). either (ltb (length (closers (kindsIn (netIn (s .args .t .now)) (s .args .ks .now)))) y ∷ both (eqb x 0) (not (eqb y 0)) ∷ [])) (c .before .before .before .before .before .before .before .before .before .before .get-word .ensures) (c .before .get-word3 .ensures)
     ∙ counts-closing (netIn (s .args .t .now)) (s .args .ks .now) (s .args .cs .now) (length (s .args .cs .now)) (sized (c .before .before .before .before .before .before .before .before .before .before .before) .0) (flag (c .before .before .before .before .before .before .before .before .before)) (events (c .before .before .before .before .before .before .before)) (sum-is (c .before .before .before .before)) (sym (c .before .before .before .some-jumps-above .ensures) ∙ c .before .before .if5 .left)
 
 pub bad-counts-spec : {M : Type 1} → statement M

@@ -11,6 +11,8 @@ use Rattle.words.specs.Words.{wordsOf}
 use Rattle.words.proofs.Lists.{zeros-at}
 use Rattle.net.specs.Held.{netIn}
 use Rattle.net.proofs.HeldLaws.{held-loaded}
+use Rattle.replay.specs.Plain.{closerKinds}
+use Rattle.replay.specs.Register.{kindsIn}
 use Rattle.replay.specs.State.{inputs, sunkOn, storedConsumed}
 use Rattle.checkpoint.specs.Bodies.{bodyState}
 use Rattle.checkpoint_jumps.proofs.Adding.{zeros-most}
@@ -42,9 +44,9 @@ returns c =
     let cs : List ℕ = wordsOf (s .args .cs .now) in
     let e : (q : ℕ) → q < N .places → getD (c .before .before .before .take-closed .last .1 .1 .1 .0) q 0 ≡ storedConsumed N (bodyState N (s .args .ks .now) [] (s .args .cs .now) []) q
     = λ q h. c .before .before .before .take-closed .ensures .at q h
-    ∙ ap (λ (n : ℕ). n + c .before .before .before .before .before .get-word .result * sunkOn N (wordsOf (s .args .ks .now)) q)
+    ∙ ap (λ (n : ℕ). n + c .before .before .before .before .before .get-word .result * sunkOn N (closerKinds (kindsIn N (s .args .ks .now))) q)
     (c .before .before .before .before .before .before .take-inputs .ensures .0 .at q h ∙ ap (λ (n : ℕ). n + sumTo (N .acts) (λ (a : ℕ). getD cs (3 + 2 * a) 0 * inputs N q a)) (zeros-at 64 q) ∙ zero-add _)
-    ∙ ap (λ (v : ℕ). sumTo (N .acts) (λ (a : ℕ). getD cs (3 + 2 * a) 0 * inputs N q a) + v * sunkOn N (wordsOf (s .args .ks .now)) q) (c .before .before .before .before .before .get-word .ensures)
+    ∙ ap (λ (v : ℕ). sumTo (N .acts) (λ (a : ℕ). getD cs (3 + 2 * a) 0 * inputs N q a) + v * sunkOn N (closerKinds (kindsIn N (s .args .ks .now))) q) (c .before .before .before .before .before .get-word .ensures)
     ∙ consumed-is N (s .args .ks .now) (s .args .cs .now) q in
     c .above .ensures ∙ ap (λ (n : ℕ). anyTo n (λ (q : ℕ). ltb (getD (c .before .before .before .take-closed .last .1 .1 .1 .0) q 0) (getD (s .args .into .now) q 0))) (c .before .places .ensures)
     ∙ any-same (N .places) _ _ (λ q h. ap (λ (v : ℕ). ltb v (getD (s .args .into .now) q 0)) (e q h))

@@ -1,4 +1,4 @@
--- The loop says what is left: what object i and those behind it add. Assumes nothing.
+-- The loop says what is left: what object i and those behind it add; the close takes every object. Assumes nothing.
 use mathlib.Core.List.{List}
 use lib.Dec.{eqb}
 use borrow.Author.Tests.{eq-eqb, ne-eqb}
@@ -7,7 +7,7 @@ use Rattle.words.proofs.Lists.{All-at}
 use Rattle.words.proofs.Words.{length-words}
 use Rattle.net.proofs.HeldLaws.{held-loaded}
 use Rattle.net.proofs.Scan.{total-turn, total-end}
-use Rattle.replay.proofs.Accepted.{registered}
+use Rattle.replay.proofs.Accepted.{closers-kinds, registered}
 use Rattle.checkpoint_jumps.proofs.Adding.{one-added}
 use Rattle.checkpoint_jumps.proofs.Taking.{one-le}
 use Prim.Native.Nat.{ℕ, _+_, _-_, _≤_, _<_}
@@ -92,7 +92,7 @@ returns c =
     let K : List ℕ = wordsOf (s .args .ks .now) in
     record {
       size = l .inv .1 ∙ sym (s .pre .1 .1 .size);
-      at = λ q h. omega (arith, l .inv .2 q h .0, total-end (λ (k : ℕ). one (eqb q (N .sink k))) K 0 (l .i) (omega (arith, length-words (s .args .ks .now))));
+      at = λ q h. omega (arith, ap (λ (x : List ℕ). sunkOn N x q) (closers-kinds K), l .inv .2 q h .0, total-end (λ (k : ℕ). one (eqb q (N .sink k))) K 0 (l .i) (omega (arith, length-words (s .args .ks .now))));
     }
 
 pub take-sinks-spec : {M : Type 1} → statement M
