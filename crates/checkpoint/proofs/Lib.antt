@@ -1,4 +1,3 @@
-pub mod RowsHold
 pub mod Spans
 pub mod Judged
 pub mod Restored

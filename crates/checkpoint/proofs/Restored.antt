@@ -16,6 +16,7 @@ use Rattle.net.specs.Net.{Net, Loaded}
 use Rattle.net.specs.Table.{netOf, loadCode}
 use Rattle.net.proofs.Promise.{table-size}
 use Rattle.replay.specs.Plain.{Ask}
+use Rattle.replay.specs.Register.{rowSize}
 use Rattle.replay.specs.State.{askS, stateFrom}
 use Rattle.replay.specs.Sound.{Sound}
 use Rattle.replay.specs.Record.{counts, countsSize, countsAt, contents, encode, wordsFrom, tableIn, stateIn, Intact}
@@ -36,7 +37,7 @@ record Fitted (b : List ℕ) (N : Net) : Type 0 where
   at24 : word b 24 ≡ word b 16 + word b 20
   at32 : word b 32 ≡ word b 24 + word b 28
   end : word b 32 + word b 36 ≡ length b
-  rows : word b 12 % 4 ≡ 0
+  rows : word b 12 % (4 * rowSize N) ≡ 0
   places : word b 20 ≡ word b 12
   counts-are : word b 28 ≡ 4 * countsSize N
   pairs : word b 36 ≡ 4 * (N .places * N .places)
@@ -163,7 +164,7 @@ module _ (b : List ℕ) (z : restoreCode b ≡ 0) where
   unfolding stateAt stateIn
   fitted =
       let e = ends in
-      let r : word b 12 % 4 ≡ 0 = is-eq _ _ (passed44 .0) in
+      let r : word b 12 % (4 * rowSize (netAt b)) ≡ 0 = is-eq _ _ (passed44 .0) in
       let p : word b 20 ≡ 4 * length (stateAt b .kinds) = is-eq _ _ (passed45 .0 .0) in
       let k : length (stateAt b .kinds) ≡ word b 12 / 4 = words-from-length b (word b 8) (word b 12 / 4) (omega arith) in
       record {
@@ -235,7 +236,7 @@ module _ (b : List ℕ) (L : Loaded (netAt b)) (I : Intact (netAt b) b) where
             (
               not-eqb _ _ z,
               (
-                not-eqb (word b 12 % 4) 0 (omega arith),
+                not-eqb (word b 12 % (4 * rowSize (netAt b))) 0 (omega arith),
                 (
                   not-eqb _ _ (sound-registered (netAt b) (stateAt b) S),
                   none-join (own45 b) (own46 b ++ own47 b) (sound45 (netAt b) (stateAt b) S (word b 20) (closedIn b) p begins)

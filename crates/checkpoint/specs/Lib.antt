@@ -1,6 +1,6 @@
 pub mod Restore
+pub mod Bodies
 pub mod Calls
 pub mod Demand
-pub mod Rows
 pub mod Answers
 pub mod Take

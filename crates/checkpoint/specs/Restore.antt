@@ -10,6 +10,7 @@ use Rattle.words.specs.Words.{word, bodiesOf, endsAt}
 use Rattle.net.specs.Net.{Net}
 use Rattle.net.specs.Table.{loadCode}
 use Rattle.replay.specs.Plain.{closers, registerCode}
+use Rattle.replay.specs.Register.{rowSize}
 use Rattle.replay.specs.State.{State, storedConsumed, storedPair, storedJumpsIn, storedMoved, storedJumps}
 use Rattle.replay.specs.Record.{tableIn, countsSize}
 use Rattle.replay.specs.Calls.{netAt, stateAt}
@@ -25,6 +26,10 @@ tests42 b = (not (endsAt (length b) (bodiesOf 5 b)), 42) ∷ []
 abbrev pub tests43 : List ℕ → List (Bool × ℕ)
 tests43 b = (not (eqb (loadCode (tableIn b)) 0), 43) ∷ []
 
+-- the register's body, of `size` bytes, is rows and nothing behind them
+abbrev pub wholeBody : Net → ℕ → Bool
+wholeBody N size = eqb (size % (4 * rowSize N)) 0
+
 -- the counts body, of `size` bytes with `flag` as its first number, begins with a 1
 abbrev pub beginsClosed : ℕ → ℕ → Bool
 beginsClosed size flag = both (leb 4 size) (eqb flag 1)
@@ -35,13 +40,13 @@ apart N x y = either (eqb x y ∷ not (eqb (N .kindOf x) (N .kindOf y)) ∷ [])
 
 -- the net, the numbers of the bodies, and a body's length in bytes
 module _ (N : Net) (d : State) (size : ℕ) where
-  -- 44: the register's length is no multiple of 4; the register is refused
+  -- 44: the register's length is no multiple of 4 (its body is not whole rows); the register is refused
   abbrev pub tests44 : List (Bool × ℕ)
-  tests44 = (not (eqb (size % 4) 0), 44) ∷ (not (eqb (registerCode N (d .kinds)) 0), 44) ∷ []
+  tests44 = (not (wholeBody N size), 44) ∷ (not (eqb (registerCode N (d .kinds)) 0), 44) ∷ []
 
   -- the second number of 44, where `code` is the number: the register's, or 0 where its length is no multiple of 4
   abbrev pub second44 : ℕ → ℕ
-  second44 code = pick (both (eqb code 44) (eqb (size % 4) 0)) (registerCode N (d .kinds)) 0
+  second44 code = pick (both (eqb code 44) (wholeBody N size)) (registerCode N (d .kinds)) 0
 
   -- 45: one row for each object; a place unknown; of another kind; an object off its sink in a closed trail
   abbrev pub tests45 : Bool → List (Bool × ℕ)

@@ -1,7 +1,1 @@
-pub mod Totals
-mod Placing
-mod Adding
-mod Taking
-mod Counting
-mod Jumping
 pub mod Verdicts

@@ -1,5 +1,5 @@
 -- The number of the bodies' first refusal, test by test. Assumes nothing.
-use Prim.Native.Nat.{ℕ, _%_}
+use Prim.Native.Nat.{ℕ}
 use mathlib.Core.Bool.{Bool, true, false, not}
 use mathlib.Core.Path.{_≡_, refl, ap, _∙_}
 use mathlib.Core.List.{List, [], _∷_, _++_}
@@ -8,11 +8,12 @@ use lib.Dec.{eqb}
 use borrow.Author.Tests.{eq-eqb, ne-eqb}
 use Rattle.words.specs.Lists.{pick, All}
 use Rattle.words.specs.Refusals.{first}
-use Rattle.words.specs.Words.{wordsOf}
 use Rattle.net.specs.Net.{Net}
 use Rattle.replay.specs.Plain.{registerCode}
+use Rattle.replay.specs.Register.{wholeRows, kindsIn}
+use Rattle.checkpoint.specs.Bodies.{bodyState, hit}
 use Rattle.checkpoint.specs.Restore.{tests45, tests46, tests47}
-use Rattle.checkpoint_judge.specs.Judge.{hit, bodyState, closedBy, judgeCode, judgeSecond}
+use Rattle.checkpoint_judge.specs.Judge.{closedBy, judgeCode, judgeSecond}
 
 -- tests that all give n
 first-hit : (n : ℕ) (ts rest : List (Bool × ℕ)) → All (λ (t : Bool × ℕ). t .1 ≡ n) ts → first (ts ++ rest) ≡ pick (hit ts) n (first rest)
@@ -31,22 +32,22 @@ module _ (N : Net) (ks ps cs js : List ℕ) where
   second = judgeSecond N ks ps cs js
 
   abbrev hit45 : Bool
-  hit45 = hit (tests45 N (bodyState ks ps [] []) (length ps) (closedBy cs))
+  hit45 = hit (tests45 N (bodyState N ks ps [] []) (length ps) (closedBy cs))
 
   abbrev hit46 : Bool
-  hit46 = hit (tests46 N (bodyState ks [] cs []) (length cs))
+  hit46 = hit (tests46 N (bodyState N ks [] cs []) (length cs))
 
   abbrev hit47 : Bool
-  hit47 = hit (tests47 N (bodyState ks [] cs js) (length js))
+  hit47 = hit (tests47 N (bodyState N ks [] cs js) (length js))
 
-  code-is : code ≡ pick (not (eqb (length ks % 4) 0)) 44 (pick (not (eqb (registerCode N (wordsOf ks)) 0)) 44 (pick hit45 45 (pick hit46 46 (pick hit47 47 0))))
+  code-is : code ≡ pick (not (wholeRows N ks)) 44 (pick (not (eqb (registerCode N (kindsIn N ks)) 0)) 44 (pick hit45 45 (pick hit46 46 (pick hit47 47 0))))
   unfolding judgeCode
   code-is =
-      ap (λ (n : ℕ). pick (not (eqb (length ks % 4) 0)) 44 (pick (not (eqb (registerCode N (wordsOf ks)) 0)) 44 n))
-      (first-hit 45 (tests45 N (bodyState ks ps cs js) (length ps) (closedBy cs)) (tests46 N (bodyState ks ps cs js) (length cs) ++ tests47 N (bodyState ks ps cs js) (length js)) (refl, (refl, (refl, (refl, tt))))
+      ap (λ (n : ℕ). pick (not (wholeRows N ks)) 44 (pick (not (eqb (registerCode N (kindsIn N ks)) 0)) 44 n))
+      (first-hit 45 (tests45 N (bodyState N ks ps cs js) (length ps) (closedBy cs)) (tests46 N (bodyState N ks ps cs js) (length cs) ++ tests47 N (bodyState N ks ps cs js) (length js)) (refl, (refl, (refl, (refl, tt))))
       ∙ ap (pick hit45 45)
-      (first-hit 46 (tests46 N (bodyState ks ps cs js) (length cs)) (tests47 N (bodyState ks ps cs js) (length js)) (refl, (refl, (refl, (refl, (refl, (refl, (refl, tt)))))))
-      ∙ ap (pick hit46 46) (last (tests47 N (bodyState ks ps cs js) (length js)) (refl, (refl, (refl, (refl, tt)))))))
+      (first-hit 46 (tests46 N (bodyState N ks ps cs js) (length cs)) (tests47 N (bodyState N ks ps cs js) (length js)) (refl, (refl, (refl, (refl, (refl, (refl, (refl, tt)))))))
+      ∙ ap (pick hit46 46) (last (tests47 N (bodyState N ks ps cs js) (length js)) (refl, (refl, (refl, (refl, tt)))))))
     where
       last : (ts : List (Bool × ℕ)) → All (λ (t : Bool × ℕ). t .1 ≡ 47) ts → first ts ≡ pick (hit ts) 47 0
       last [] a = refl
@@ -58,7 +59,7 @@ module _ (N : Net) (ks ps cs js : List ℕ) where
 
   -- it is never 43
   pub judge-not-43 : eqb code 43 ≡ false
-  judge-not-43 = rw code-is (go (not (eqb (length ks % 4) 0)) (not (eqb (registerCode N (wordsOf ks)) 0)) hit45 hit46 hit47)
+  judge-not-43 = rw code-is (go (not (wholeRows N ks)) (not (eqb (registerCode N (kindsIn N ks)) 0)) hit45 hit46 hit47)
     where
       go : (a b c d e : Bool) → eqb (pick a 44 (pick b 44 (pick c 45 (pick d 46 (pick e 47 0))))) 43 ≡ false
       go true b c d e = refl
@@ -73,30 +74,30 @@ module _ (N : Net) (ks ps cs js : List ℕ) where
   unfolding judgeSecond
   alone n e f = (e, rw (← e, f))
 
-  pub judge-rows : (length ks % 4 ≡ 0 → ⊥) → (44 ≡ code) × (0 ≡ second)
+  pub judge-rows : wholeRows N ks ≡ false → (44 ≡ code) × (0 ≡ second)
   unfolding judgeSecond
   judge-rows n =
-      let e : 44 ≡ code = rw (code-is, ne-eqb (length ks % 4) 0 n) in
-      (e, rw (← e, ne-eqb (length ks % 4) 0 n))
+      let e : 44 ≡ code = rw (code-is, n) in
+      (e, rw (← e, n))
 
-  module _ (w : length ks % 4 ≡ 0) where
-    pub judge-register : (registerCode N (wordsOf ks) ≡ 0 → ⊥) → (44 ≡ code) × (registerCode N (wordsOf ks) ≡ second)
+  module _ (w : wholeRows N ks ≡ true) where
+    pub judge-register : (registerCode N (kindsIn N ks) ≡ 0 → ⊥) → (44 ≡ code) × (registerCode N (kindsIn N ks) ≡ second)
     unfolding judgeSecond
     judge-register n =
-        let e : 44 ≡ code = rw (code-is, eq-eqb (length ks % 4) 0 w, ne-eqb (registerCode N (wordsOf ks)) 0 n) in
-        (e, rw (← e, eq-eqb (length ks % 4) 0 w))
+        let e : 44 ≡ code = rw (code-is, w, ne-eqb (registerCode N (kindsIn N ks)) 0 n) in
+        (e, rw (← e, w))
 
-    module _ (r : registerCode N (wordsOf ks) ≡ 0) where
+    module _ (r : registerCode N (kindsIn N ks) ≡ 0) where
       pub judge-positions : hit45 ≡ true → (45 ≡ code) × (0 ≡ second)
-      judge-positions h = alone 45 (rw (code-is, eq-eqb (length ks % 4) 0 w, eq-eqb (registerCode N (wordsOf ks)) 0 r, h)) refl
+      judge-positions h = alone 45 (rw (code-is, w, eq-eqb (registerCode N (kindsIn N ks)) 0 r, h)) refl
 
       module _ (p : hit45 ≡ false) where
         pub judge-counts : hit46 ≡ true → (46 ≡ code) × (0 ≡ second)
-        judge-counts h = alone 46 (rw (code-is, eq-eqb (length ks % 4) 0 w, eq-eqb (registerCode N (wordsOf ks)) 0 r, p, h)) refl
+        judge-counts h = alone 46 (rw (code-is, w, eq-eqb (registerCode N (kindsIn N ks)) 0 r, p, h)) refl
 
         module _ (c : hit46 ≡ false) where
           pub judge-jumps : hit47 ≡ true → (47 ≡ code) × (0 ≡ second)
-          judge-jumps h = alone 47 (rw (code-is, eq-eqb (length ks % 4) 0 w, eq-eqb (registerCode N (wordsOf ks)) 0 r, p, c, h)) refl
+          judge-jumps h = alone 47 (rw (code-is, w, eq-eqb (registerCode N (kindsIn N ks)) 0 r, p, c, h)) refl
 
           pub judge-taken : hit47 ≡ false → (0 ≡ code) × (0 ≡ second)
-          judge-taken h = alone 0 (rw (code-is, eq-eqb (length ks % 4) 0 w, eq-eqb (registerCode N (wordsOf ks)) 0 r, p, c, h)) refl
+          judge-taken h = alone 0 (rw (code-is, w, eq-eqb (registerCode N (kindsIn N ks)) 0 r, p, c, h)) refl

@@ -1,21 +1,26 @@
 // The tests 44 to 47 on the bytes of the bodies behind a record's table, the first that applies.
-// Above `net` and `replay`; `checkpoint` has the definitions.
+// Above `checkpoint_positions`, `checkpoint_counts` and `checkpoint_jumps`, which have 45, 46 and 47; `checkpoint` has the definitions.
 
-use crate::counts::bad_counts;
-use crate::jumps::bad_jumps;
-use crate::positions::bad_positions;
-use crate::positions::begins_closed;
 use checkpoint::RestoreAnswer;
+use checkpoint_counts::bad_counts;
+use checkpoint_jumps::bad_jumps;
+use checkpoint_positions::bad_positions;
 use net::NetWords;
 use replay_objects::register::register_refusal;
 ghost use mathlib.Core.Path.{_≡_};
 ghost use Rattle.net.specs.Held.{netIn, Held};
 ghost use Rattle.checkpoint.specs.Answers.{restoreAnswerCode, restoreAnswerSecond};
-ghost use Rattle.checkpoint_judge.specs.Judge.{judgeCode, judgeSecond};
+ghost use Rattle.checkpoint_judge.specs.Judge.{closedBy, judgeCode, judgeSecond};
 
-mod counts;
-mod jumps;
-mod positions;
+// The counts body begins with a 1.
+fn begins_closed(cs: &[u8]) -> bool
+    ensures { λ r. ⌜ r ≡ closedBy (now (cs .entry)) ⌝ }
+{
+    if cs.len() < 4 {
+        return false;
+    }
+    words::word_at(cs, 0) == 1
+}
 
 // The register's bytes, then those of positions, counts and jumps.
 pub fn judge(ks: &[u8], ps: &[u8], cs: &[u8], js: &[u8], t: &NetWords) -> RestoreAnswer

@@ -19,10 +19,11 @@ use Rattle.net.specs.Table.{loadCode}
 use Rattle.net.specs.Held.{loadedWords, netIn}
 use Rattle.net.proofs.HeldLaws.{loaded-held, held-net}
 use Rattle.replay.specs.Plain.{registerCode}
+use Rattle.replay.specs.Register.{rowSize, kindsIn}
 use Rattle.replay.specs.State.{stateFrom}
 use Rattle.replay.specs.Record.{countsSize, wordsFrom, tableIn, stateIn}
 use Rattle.replay.specs.Calls.{netAt, stateAt}
-use Rattle.checkpoint.specs.Restore.{beginsClosed, tests44, tests45, tests46, tests47, bodyTests, restoreTests, restoreCode, restoreSecond}
+use Rattle.checkpoint.specs.Restore.{wholeBody, beginsClosed, tests44, tests45, tests46, tests47, bodyTests, restoreTests, restoreCode, restoreSecond}
 use Rattle.checkpoint.specs.Take.{Framed, Opened, takeCode, takeBytes}
 use Rattle.checkpoint_judge.specs.Judge.{closedBy, judgeCode, judgeSecond}
 use Rattle.words.proofs.Words.{words-take, word-drop}
@@ -65,10 +66,10 @@ module _ (N : Net) (closed : Bool) (s4 s5 s6 s7 : ℕ) where
   abbrev tests : List ℕ → List ℕ → List ℕ → List ℕ → List (Bool × ℕ)
   tests K P C J = bodyTests N (stateFrom K P C J) s4 s5 s6 s7 closed
 
-  same-tests : (K L P Q C D J I : List ℕ) → (s4 % 4 ≡ 0 → K ≡ L) → (s5 ≡ 4 * length L → P ≡ Q) → (s6 ≡ 4 * countsSize N → C ≡ D) → (s7 ≡ 4 * (N .places * N .places) → J ≡ I)
+  same-tests : (K L P Q C D J I : List ℕ) → (s4 % (4 * rowSize N) ≡ 0 → K ≡ L) → (s5 ≡ 4 * length L → P ≡ Q) → (s6 ≡ 4 * countsSize N → C ≡ D) → (s7 ≡ 4 * (N .places * N .places) → J ≡ I)
       → first (tests K P C J) ≡ first (tests L Q D I)
   same-tests K L P Q C D J I k p c j =
-      change (not (eqb (s4 % 4) 0), 44) (λ (X : List ℕ). rest (tests X P C J)) K L (λ e. k (is-eq _ _ e))
+      change (not (wholeBody N s4), 44) (λ (X : List ℕ). rest (tests X P C J)) K L (λ e. k (is-eq _ _ e))
       ∙ behind (on44 L) (from45 L P C J) (from45 L Q C J) (change (not (eqb s5 (4 * length L)), 45) (λ (X : List ℕ). rest (from45 L X C J)) P Q (λ e. p (is-eq _ _ e)))
       ∙ behind (on44 L ++ tests45 N (stateFrom L Q C J) s5 closed) (from46 L Q C J) (from46 L Q D J)
       (change (not (eqb s6 (4 * countsSize N)), 46) (λ (X : List ℕ). rest (from46 L Q X J)) C D (λ e. c (is-eq _ _ e)))
@@ -129,7 +130,7 @@ module _ (b : List ℕ) (F : Framed b) where
   table-part = ap (λ (i : ℕ). take (word b 4) (drop i b)) (spread .at0)
 
   module _ (z : loadCode (tableIn b) ≡ 0) where
-    kinds-are : word b 12 % 4 ≡ 0 → wordsFrom b (word b 8) (word b 12 / 4) ≡ wordsOf ks
+    kinds-are : word b 12 % (4 * rowSize (netAt b)) ≡ 0 → wordsFrom b (word b 8) (word b 12 / 4) ≡ kindsIn (netAt b) ks
     kinds-are e = sym (span-words b (word b 8) (word b 12) (word b 12 / 4) (omega arith))
 
     -- 41 to 43 passed: the number is that of the bodies
@@ -138,7 +139,7 @@ module _ (b : List ℕ) (F : Framed b) where
     code-judged =
         let s = spread in
         let N : Net = netAt b in
-        let K : List ℕ = wordsOf ks in let P : List ℕ = wordsOf ps in let C : List ℕ = wordsOf cs in let J : List ℕ = wordsOf js in
+        let K : List ℕ = kindsIn N ks in let P : List ℕ = wordsOf ps in let C : List ℕ = wordsOf cs in let J : List ℕ = wordsOf js in
         rw (le-ltb (length b) 40 (F .size-ge), le-ltb maxRecord (length b) (F .size-le), F .laid, eq-eqb (loadCode (tableIn b)) 0 z)
         (same-tests N closed (word b 12) (word b 20) (word b 28) (word b 36) _ K _ P _ C _ J
         kinds-are
@@ -157,8 +158,8 @@ module _ (b : List ℕ) (F : Framed b) where
         let s = spread in
         let N : Net = netAt b in
         rw (code-judged, judge-not-43 N ks ps cs js)
-        (last (eqb (judgeCode N ks ps cs js) 44) (eqb (word b 12 % 4) 0) _ _ (λ e. ap (registerCode N) (kinds-are (eqb-true _ _ e)))
-        ∙ ap (λ (n : ℕ). pick (both (eqb (judgeCode N ks ps cs js) 44) (eqb (n % 4) 0)) (registerCode N (wordsOf ks)) 0) (sym (part-size (word b 8) (word b 12) (omega arith))))
+        (last (eqb (judgeCode N ks ps cs js) 44) (wholeBody N (word b 12)) _ _ (λ e. ap (registerCode N) (kinds-are (eqb-true _ _ e)))
+        ∙ ap (λ (n : ℕ). pick (both (eqb (judgeCode N ks ps cs js) 44) (wholeBody N n)) (registerCode N (kindsIn N ks)) 0) (sym (part-size (word b 8) (word b 12) (omega arith))))
       where
         last : (s t : Bool) (x y : ℕ) → (t ≡ true → x ≡ y) → pick (both s t) x 0 ≡ pick (both s t) y 0
         last true true x y h = h refl

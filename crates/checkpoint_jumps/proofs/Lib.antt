@@ -1,0 +1,4 @@
+mod Totals
+mod Adding
+mod Taking
+mod Jumping
