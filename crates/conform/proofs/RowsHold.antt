@@ -6,7 +6,7 @@ use Rattle.net.specs.Rows.{tableM}
 use Rattle.replay.specs.Record.{encode, wordsFrom, tableIn, stateIn}
 use Rattle.replay.specs.Calls.{netAt, stateAt, askCode, askBytes, startRecord}
 use Rattle.text.specs.Decimal.{decimal}
-use Rattle.text.specs.Fitness.{thousandths, fitness}
+use Rattle.fitness.specs.Fitness.{thousandths, fitness}
 use Rattle.lines.specs.Lines.{lineOf}
 use Rattle.report.specs.TrailLines.{trailLineAt, placeLineAt, actLineAt, jumpLineAt}
 use Rattle.report.specs.Report.{reportAt}

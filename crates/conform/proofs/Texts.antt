@@ -18,7 +18,7 @@ use Rattle.net.proofs.Promise.{promise}
 use Rattle.replay.specs.Calls.{startRecord}
 use Rattle.replay.specs.Ready.{Ready}
 use Rattle.replay_start.specs.Startable.{Startable}
-use Rattle.lines.specs.Lines.{refusedLine}
+use Rattle.report_lines.specs.ReportLines.{refusedLine}
 use Rattle.report.specs.Report.{reportAt}
 use Rattle.trace_header.specs.declared.Contents.the-variants.{Broken, Bodies}
 use Rattle.trace_header.specs.Opening.{contentsTests, contentsOf, registerOf, traceCode, openCode}

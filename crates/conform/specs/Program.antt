@@ -9,7 +9,7 @@ use Rattle.words.specs.Lists.{pick}
 use Rattle.words.specs.Words.{word}
 use Rattle.net.specs.Table.{netOf, loadCode}
 use Rattle.replay.specs.Plain.{Event, event, close, start, run}
-use Rattle.lines.specs.Lines.{refusedLine}
+use Rattle.report_lines.specs.ReportLines.{refusedLine}
 use Rattle.report.specs.Report.{reportOf, reportAt}
 use Rattle.trace_header.specs.Opening.{registerOf, traceCode}
 use Rattle.program_events.specs.Followed.{Followed, closedAfter}
