@@ -12,7 +12,7 @@ use Rattle.report.specs.TrailLines.{trailLineAt, placeLineAt, actLineAt, jumpLi
 use Rattle.report.specs.Report.{reportAt}
 use Rattle.trace_header.specs.Opening.{registerOf, traceCode}
 use Rattle.trace_reader.specs.Trace.{readFrom}
-use Rattle.program_events.specs.Followed.{followed, final, closedAfter}
+use Rattle.trace_reader.specs.Followed.{followed, final, closedAfter}
 use Rattle.conform.specs.Program.{eventsText, programText}
 use Rattle.conform.specs.Rows.{trailOf, fourth, rows, RowsHold}
 

@@ -27,9 +27,10 @@ use Rattle.trace_header.proofs.SameBytes.{ltb-same}
 use Rattle.program_output.specs.declared.Ending.{Ending}
 use Rattle.program_output.specs.declared.Ending.the-variants.{Report, Refused}
 use Rattle.program_output.specs.Ending.{endingText, Printable}
-use Rattle.program_events.specs.Followed.{Followed, closedAfter, endingAfter, final}
+use Rattle.trace_reader.specs.Followed.{Followed, closedAfter, final}
+use Rattle.program_events.specs.OneStep.{endingAfter}
 use Rattle.program_events.specs.Window.{Begins, OfSomeFile}
-use Rattle.program_events.proofs.Behind.{final-behind}
+use Rattle.trace_reader.proofs.Behind.{final-behind}
 use Rattle.conform.specs.Program.{eventsText, programText}
 use Rattle.conform.specs.FromFile.{FromFile, BehindContents, BehindRegister}
 

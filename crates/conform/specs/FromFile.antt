@@ -11,7 +11,7 @@ use Rattle.trace_header.specs.declared.Contents.the-variants.{Bodies}
 use Rattle.trace_header.specs.Opening.{contentsOf}
 use Rattle.program_output.specs.declared.Ending.{Ending}
 use Rattle.program_output.specs.Ending.{endingText}
-use Rattle.program_events.specs.Followed.{Followed}
+use Rattle.trace_reader.specs.Followed.{Followed}
 use Rattle.program_events.specs.Window.{Begins, OfSomeFile}
 use Rattle.conform.specs.Program.{eventsText, programText}
 

@@ -12,8 +12,8 @@ use Rattle.replay.specs.Plain.{Event, event, close, start, run}
 use Rattle.report_lines.specs.ReportLines.{refusedLine}
 use Rattle.report.specs.Report.{reportOf, reportAt}
 use Rattle.trace_header.specs.Opening.{registerOf, traceCode}
-use Rattle.program_events.specs.Followed.{Followed, closedAfter}
-use Rattle.program_events.specs.Claims.{read, came}
+use Rattle.trace_reader.specs.Followed.{Followed, closedAfter}
+use Rattle.trace_reader.specs.AllEvents.{read, came}
 
 -- once the events are read: the report of the closed trail, or the refusal of an event with the events accepted before it
 unfoldable pub eventsText : Followed → List ℕ

@@ -12,7 +12,8 @@ use Rattle.replay.specs.Plain.{close}
 use Rattle.replay.specs.Calls.{askBytes}
 use Rattle.program_output.specs.declared.Ending.{Ending}
 use Rattle.program_output.specs.declared.Ending.the-variants.{Report, Refused}
-use Rattle.program_events.specs.Followed.{Followed, closedAfter, endingAfter, leftBy, final, goesOn}
+use Rattle.trace_reader.specs.Followed.{Followed, closedAfter, final}
+use Rattle.program_events.specs.OneStep.{endingAfter, leftBy, goesOn}
 use Rattle.program_events.specs.Window.{Filled, Kept, Begins, OfSomeFile}
 use Rattle.program_events.specs.declared.Spot.{Spot}
 use Rattle.program_events.specs.declared.Outcome.{Outcome}

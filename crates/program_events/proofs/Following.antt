@@ -26,7 +26,8 @@ use Rattle.trace_reader.specs.Trace.{readFrom}
 use Rattle.trace_reader.proofs.HandedLaws.{handed, handed-bytes}
 use Rattle.trace_reader.proofs.WindowLaws.{window-enough}
 use Rattle.program_events.specs.Follows.{Follows}
-use Rattle.program_events.specs.Followed.{byFound, behind, stops, trailAfter, outcomeAfter, stepTrail, stepOutcome}
+use Rattle.trace_reader.specs.Followed.{byFound}
+use Rattle.program_events.specs.OneStep.{behind, stops, trailAfter, outcomeAfter, stepTrail, stepOutcome}
 use Rattle.program_events.specs.declared.Spot.{Spot}
 use Rattle.program_events.specs.declared.Outcome.{Outcome}
 

@@ -18,7 +18,8 @@ use Rattle.trace_reader.specs.declared.Found.the-variants as found
 use Rattle.trace_reader.specs.Answers.{eventIn}
 use Rattle.trace_reader.specs.Trace.{readFrom}
 use Rattle.trace_reader.proofs.WindowLaws.{window-enough}
-use Rattle.program_events.specs.Followed.{byFound, behind, stops, trailAfter, outcomeAfter, stepTrail, stepOutcome, followed, final, goesOn}
+use Rattle.trace_reader.specs.Followed.{byFound, followed, final}
+use Rattle.program_events.specs.OneStep.{behind, stops, trailAfter, outcomeAfter, stepTrail, stepOutcome, goesOn}
 use Rattle.program_events.specs.Window.{Window, Filled, Kept}
 use Rattle.program_events.specs.declared.Spot.{Spot}
 use Rattle.program_events.specs.declared.Outcome.{Outcome}

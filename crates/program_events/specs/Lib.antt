@@ -1,4 +1,3 @@
 pub mod Follows
-pub mod Followed
+pub mod OneStep
 pub mod Window
-pub mod Claims

@@ -15,7 +15,8 @@ ghost use Rattle.words.specs.Words.{wordsOf};
 ghost use Rattle.net.specs.Held.{netIn};
 ghost use Rattle.replay.specs.Ready.{Ready};
 ghost use Rattle.program_events.specs.Follows.{Follows};
-ghost use Rattle.program_events.specs.Followed.{Followed, closedAfter, endingAfter, stops, leftBy, stepTrail, stepOutcome};
+ghost use Rattle.trace_reader.specs.Followed.{Followed, closedAfter};
+ghost use Rattle.program_events.specs.OneStep.{endingAfter, stops, leftBy, stepTrail, stepOutcome};
 ghost use Rattle.program_events.specs.Window.{Window, Filled, Kept, OfSomeFile, Through, Turned};
 
 // Where the reading stands: byte `from` of the window is byte `at` of the events body, and `accepted` events are accepted.

@@ -12,7 +12,7 @@ use Rattle.net.specs.Held.{netIn}
 use Rattle.program_events.specs.declared.Spot.{Spot}
 use Rattle.program_events.specs.declared.Outcome.{Outcome}
 use Rattle.program_events.specs.Follows.{Follows}
-use Rattle.program_events.specs.Followed.{leftBy}
+use Rattle.program_events.specs.OneStep.{leftBy}
 use Rattle.program_events.specs.Window.{OfSomeFile}
 use Rattle.program_events.proofs.Following.{events-few}
 use Rattle.program_events.proofs.File.{Read, read-start, read-over, read-on}

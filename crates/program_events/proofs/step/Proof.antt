@@ -11,7 +11,7 @@ use Rattle.replay.specs.Plain.{Event, event, refusal, eventOf, askEvent}
 use Rattle.replay.specs.Calls.{askBytes}
 use Rattle.trace_reader.specs.Trace.{readFrom}
 use Rattle.program_events.specs.declared.Outcome.{Outcome}
-use Rattle.program_events.specs.Followed.{stops}
+use Rattle.program_events.specs.OneStep.{stops}
 use Rattle.program_events.proofs.Following.{kinds-known, event-code, event-room, read-at, read-handed, read-bytes}
 use Rattle.program_events.proofs.Kept.{step-event, step-end, step-refused}
 use borrow.Author.Needs.{needs}

@@ -1,23 +1,17 @@
 -- What comes of a trail file's events: each one that the reader hands out is put to the trail, until the body ends or one is
--- refused. And one step of it, at a spot.
+-- refused.
 use Prim.Native.Nat.{ℕ, zero, suc, _+_, _-_, _*_}
-use mathlib.Core.Bool.{true, false}
 use mathlib.Core.List.{List, [], _∷_}
-use lib.ListN.{length}
 use lib.Dec.{eqb}
 use Rattle.words.specs.Lists.{pick}
 use Rattle.net.specs.Net.{Net}
 use Rattle.replay.specs.Plain.{Event, event, close}
 use Rattle.replay.specs.Calls.{askBytes}
 use Rattle.trace_reader.specs.Answers.{eventIn}
 use Rattle.trace_reader.specs.Trace.{readFrom}
 use Rattle.trace_reader.specs.declared.Answer.{Answer}
 use Rattle.trace_reader.specs.declared.Found.{Found}
 use Rattle.trace_reader.specs.declared.Found.the-variants as found
-use Rattle.program_output.specs.declared.Ending.{Ending}
-use Rattle.program_output.specs.declared.Ending.the-variants.{Report, Refused}
-use Rattle.program_events.specs.declared.Spot.{Spot}
-use Rattle.program_events.specs.declared.Outcome.{Outcome}
 
 -- the trail's bytes, how many events are accepted, and the number of the refusal, 0 at the body's end
 pub record Followed : Type 0 where
@@ -29,47 +23,14 @@ pub record Followed : Type 0 where
 unfoldable pub closedAfter : Followed → List ℕ
 closedAfter d = pick (eqb (d .code) 0) (askBytes (d .trail) close) (d .trail)
 
--- what is to be printed then: the report of that trail, or the refusal with the events accepted before it
-unfoldable pub endingAfter : Followed → Ending
-endingAfter d = pick (eqb (d .code) 0) (Report (length (closedAfter d))) (Refused (d .code) (d .accepted))
-
 -- by what is found: an event, of which more is computed only then; or the end (0) or a refusal with its number
 abbrev pub byFound {ℓ} : {A : Type ℓ} → Found → (Unit {0} → A) → (ℕ → A) → A
 byFound found.Event e stop = e (tt {0})
 byFound found.End e stop = stop 0
 byFound (found.Refused c) e stop = stop c
 
--- the outcome behind an event that is accepted, and where reading stops
-abbrev pub behind : Spot → Answer → Outcome
-behind s a = record {
-  spot = record { from = s .from + 8 + 4 * a .event .count; at = a .next .at; accepted = s .accepted + 1 };
-  over = false;
-  code = 0;
-}
-
-abbrev pub stops : Spot → ℕ → Outcome
-stops s c = record { spot = s; over = true; code = c }
-
--- what an outcome that is over says
-abbrev pub leftBy : List ℕ → Outcome → Followed
-leftBy trail r = record { trail = trail; accepted = r .spot .accepted; code = r .code }
-
--- what an answer of the reader leaves of the trail, and the outcome
-abbrev pub trailAfter : List ℕ → Answer → List ℕ
-trailAfter trail a = byFound (a .found) (λ (u : Unit). askBytes trail (event (eventIn (a .event)))) (λ (c : ℕ). trail)
-
-abbrev pub outcomeAfter : Spot → Answer → Outcome
-outcomeAfter s a = byFound (a .found) (λ (u : Unit). behind s a) (stops s)
-
 -- the net, the kind of each object, the bytes b with which the file ends, and the length of the events body
 module _ (N : Net) (ks b : List ℕ) (body : ℕ) where
-  -- one step at a spot of b: the trail's bytes after it, and how it goes on
-  unfoldable pub stepTrail : List ℕ → Spot → List ℕ
-  stepTrail trail s = trailAfter trail (readFrom N ks (s .accepted) b (s .from) body (s .at))
-
-  unfoldable pub stepOutcome : Spot → Outcome
-  stepOutcome s = outcomeAfter s (readFrom N ks (s .accepted) b (s .from) body (s .at))
-
   -- what comes of at most so many events, from position `at` of the body on, which is byte `from` of b; n are accepted before
   unfoldable pub followed : ℕ → List ℕ → ℕ → ℕ → ℕ → Followed
   followed zero trail from at n = record { trail = trail; accepted = n; code = 0 }
@@ -94,7 +55,3 @@ module _ (N : Net) (ks b : List ℕ) (body : ℕ) where
 
   unfoldable pub eventsRead : ℕ → List Event
   eventsRead from = handedOut 1000001 from 0 0
-
-  -- what comes of all events where reading stands as the outcome says, in a window that begins at byte i of b
-  unfoldable pub goesOn : ℕ → List ℕ → Outcome → Followed
-  goesOn i trail r = pick (r .over) (leftBy trail r) (final trail (i + r .spot .from) (r .spot .at) (r .spot .accepted))

@@ -9,13 +9,13 @@ use lib.Seq.{drop-drop}
 use Rattle.net.specs.Net.{Net, Loaded}
 use Rattle.replay.specs.Plain.{event}
 use Rattle.replay.specs.Calls.{askBytes}
 use Rattle.trace_reader.specs.declared.Answer.{Answer}
 use Rattle.trace_reader.specs.declared.Found.{Found}
 use Rattle.trace_reader.specs.declared.Found.the-variants as found
 use Rattle.trace_reader.specs.Answers.{eventIn}
 use Rattle.trace_reader.specs.Trace.{readFrom}
 use Rattle.trace_reader.proofs.WindowLaws.{window-enough}
-use Rattle.program_events.specs.Followed.{Followed, byFound, followed, final}
+use Rattle.trace_reader.specs.Followed.{Followed, byFound, followed, final}
 
 module _ (N : Net) (L : Loaded N) (ks f : List ℕ) (body i : ℕ) where
   read-behind : (n from at : ℕ) → readFrom N ks n f (i + from) body at ≡ readFrom N ks n (drop i f) from body at

@@ -16,15 +16,15 @@ use Rattle.replay.specs.Record.{encode}
 use Rattle.replay.specs.Calls.{askBytes, startRecord}
 use Rattle.replay.proofs.Records.{run-append, next-is, step-at, sound-at}
 use Rattle.replay.proofs.Theorems.{sound-reached}
 use Rattle.trace_reader.specs.declared.Answer.{Answer}
 use Rattle.trace_reader.specs.declared.Found.{Found}
 use Rattle.trace_reader.specs.declared.Found.the-variants as found
 use Rattle.trace_reader.specs.Answers.{eventIn}
 use Rattle.trace_reader.specs.Trace.{readFrom}
 use Rattle.trace_reader.proofs.HandedLaws.{handed}
-use Rattle.program_events.specs.Followed.{Followed, closedAfter, byFound, followed, final, handedOut, eventsRead}
-use Rattle.program_events.specs.Claims.{came, PlainRun}
-use Rattle.program_events.proofs.Body.{all-of}
+use Rattle.trace_reader.specs.Followed.{Followed, closedAfter, byFound, followed, final, handedOut, eventsRead}
+use Rattle.trace_reader.specs.AllEvents.{came, PlainRun}
+use Rattle.trace_reader.proofs.Body.{all-of}
 
 module _ (table : List ℕ) (good : loadCode table ≡ 0) where
   abbrev N : Net

@@ -10,8 +10,8 @@ use Rattle.replay.specs.Plain.{Event, event, close, start, run, answers}
 use Rattle.replay.specs.State.{stateOf}
 use Rattle.replay.specs.Record.{encode, wordsFrom}
 use Rattle.replay.specs.Calls.{startRecord}
 use Rattle.trace_reader.specs.Trace.{readCode}
-use Rattle.program_events.specs.Followed.{Followed, closedAfter, final, eventsRead}
+use Rattle.trace_reader.specs.Followed.{Followed, closedAfter, final, eventsRead}
 
 -- events as the numbers of a body: activity, number of objects, objects
 abbrev pub numbers : List Event → List ℕ

@@ -1,15 +1,11 @@
 -- The events that are handed out stand in the body one behind the other, and reading stops behind them. Assumes nothing.
 use Prim.Native.Nat.{ℕ, zero, suc, _+_, _*_, _≤_, _<_}
-use mathlib.Core.Logic.{_⊎_, inl, inr, ⊎-elim}
 use mathlib.Core.Path.{_≡_, refl, ap, ap₂, sym, subst, _∙_}
 use mathlib.Core.List.{List, [], _∷_, _++_}
-use native.Mathlib.Decide.{ℕ-discrete}
 use native.Mathlib.Nat.{add-zero}
 use native.Mathlib.Omega.{arith}
 use lib.ListN.{length, take, drop, length-append}
 use lib.Seq.{drop-drop, take-add}
-use borrow.Author.Tests.{eq-eqb, ne-eqb}
-use Rattle.words.specs.Refusals.{first}
 use Rattle.words.specs.Words.{word, wordsOf, wordsAt}
 use Rattle.words.proofs.Words.{words-drop, words-read, length-at}
 use Rattle.net.specs.Net.{Net, Loaded}
@@ -17,47 +13,16 @@ use Rattle.replay.specs.Plain as plain
 use Rattle.replay.specs.Record.{wordsFrom}
 use Rattle.replay.specs.Calls.{askBytes}
 use Rattle.replay.proofs.Accepted.{accepted}
 use Rattle.trace_reader.specs.declared.Answer.{Answer}
 use Rattle.trace_reader.specs.declared.Found.{Found}
 use Rattle.trace_reader.specs.declared.Found.the-variants as found
-use Rattle.trace_reader.specs.Answers.{foundCode, eventIn, nothing, unless}
+use Rattle.trace_reader.specs.Answers.{foundCode, eventIn}
 use Rattle.trace_reader.specs.Claims.{Handed}
-use Rattle.trace_reader.specs.Trace.{eventAt, endTests, readTests, eventFound, readCode, readFrom}
-use Rattle.trace_reader.proofs.HandedLaws.{handed, read-code}
+use Rattle.trace_reader.specs.Trace.{eventAt, eventFound, readCode, readFrom}
+use Rattle.trace_reader.proofs.HandedLaws.{tells, handed, read-code}
 use Rattle.trace_reader.proofs.ObjectLaws.{first-of-eight}
-use Rattle.program_events.specs.Followed.{Followed, byFound, followed, handedOut, final, eventsRead}
-use Rattle.program_events.specs.Claims.{numbers, AllOf}
-
--- an answer that is not refused is the other
-by-number : (c : ℕ) (a : Answer) (at : ℕ) → (unless c a at ≡ a) ⊎ ((unless c a at .found ≡ found.Refused c) × (c ≡ 0 → ⊥))
-by-number c a at = go (ℕ-discrete c 0)
-  where
-    go : Dec (c ≡ 0) → (unless c a at ≡ a) ⊎ ((unless c a at .found ≡ found.Refused c) × (c ≡ 0 → ⊥))
-    go (yes e) = inl (rw (eq-eqb c 0 e))
-    go (no m) = inr (rw (ne-eqb c 0 m), m)
-
-module _ (N : Net) (ks : List ℕ) (n : ℕ) (b : List ℕ) (from body at : ℕ) where
-  abbrev here : Answer
-  here = readFrom N ks n b from body at
-
-  -- what an answer tells by what it found
-  abbrev Tells : Found → Type 0
-  Tells found.Event = here ≡ eventFound b from at
-  Tells found.End = at ≡ body
-  Tells (found.Refused c) = c ≡ 0 → ⊥
-
-  tells : (d : Found) → here .found ≡ d → Tells d
-  unfolding readFrom
-  tells d p = go (ℕ-discrete at body)
-    where
-      by : (c : ℕ) (a : Answer) → here ≡ unless c a at → (here ≡ a → Tells (a .found)) → Tells d
-      by c a e t =
-          ⊎-elim (λ s. subst Tells (sym (ap (λ (x : Answer). x .found) (e ∙ s)) ∙ p) (t (e ∙ s)))
-          (λ s. subst Tells (sym (ap (λ (x : Answer). x .found) e ∙ s .0) ∙ p) (s .1)) (by-number c a at)
-
-      go : Dec (at ≡ body) → Tells d
-      go (yes e) = by (first (endTests b from)) (nothing found.End at) (rw (eq-eqb at body e)) (λ q. e)
-      go (no m) = by (first (readTests N ks n b from body at)) (eventFound b from at) (rw (ne-eqb at body m)) (λ q. q)
+use Rattle.trace_reader.specs.Followed.{Followed, byFound, followed, handedOut, final, eventsRead}
+use Rattle.trace_reader.specs.AllEvents.{numbers, AllOf}
 
 -- the numbers of an event at byte `from`, and of those behind it
 module _ (f : List ℕ) (from : ℕ) where
@@ -106,7 +71,7 @@ module _ (N : Net) (L : Loaded N) (ks f : List ℕ) (body : ℕ) where
     -- the event there is the one whose numbers stand there
     module _ (p : answered .found ≡ found.Event) where
       is-found : answered ≡ eventFound f from at
-      is-found = tells N ks n f from body at found.Event p
+      is-found = tells N ks n f from body at found.Event p .1
 
       h : Handed N ks n (length f) from body at (eventFound f from at)
       h = subst (Handed N ks n (length f) from body at) is-found (handed N L ks n f from body at p)
