@@ -28,7 +28,7 @@ module _ (table f : List ℕ) (good : loadCode table ≡ 0) (opens : traceCode (
   N = netOf table
 
   abbrev ks : List ℕ
-  ks = registerOf f
+  ks = registerOf (netOf table) f
 
   L : Loaded N
   L = promise table good

@@ -14,6 +14,7 @@ use Rattle.replay.specs.Plain.{Event, event, refusal}
 use Rattle.replay.specs.State.{State, acceptS}
 use Rattle.replay.specs.Calls.{stateAt, askCode, askBytes}
 use Rattle.replay.specs.Ready.{KnownKinds}
+use Rattle.replay.specs.Register.{kindsIn}
 use Rattle.replay.proofs.Accepted.{accepted}
 use Rattle.replay_objects.proofs.RecordLaws.{ready-loaded, ready-sound}
 use Rattle.replay.proofs.Calls.{code-is, ready-asked, state-taken}
@@ -38,9 +39,9 @@ pub record Stepped (t register : List ℕ) (size : ℕ) (s : Spot) (left : List 
   pub more : r .over ≡ false → r .spot .accepted ≡ s .accepted + 1
 
 module _ (t rec register : List ℕ) (n : ℕ) (F : Follows t rec register n) where
-  pub kinds-known : KnownKinds (netIn t) (wordsOf register)
+  pub kinds-known : KnownKinds (netIn t) (kindsIn (netIn t) register)
   kinds-known = record {
-    kind = λ o h. All-at (λ (k : ℕ). k < netIn t .kinds) 0 (wordsOf register)
+    kind = λ o h. All-at (λ (k : ℕ). k < netIn t .kinds) 0 (kindsIn (netIn t) register)
         (subst (All (λ (k : ℕ). k < netIn t .kinds)) (F .kinds) (ready-sound t rec (F .ready) .kinds)) o h;
   }
 
@@ -48,12 +49,12 @@ module _ (t rec register : List ℕ) (n : ℕ) (F : Follows t rec register n) wh
   events-few = omega (arith, ready-sound t rec (F .ready) .events, F .events)
 
   -- an event that is not refused
-  module _ (e : Event) (z : refusal (netIn t) (wordsOf register) 0 n e ≡ 0) where
+  module _ (e : Event) (z : refusal (netIn t) (kindsIn (netIn t) register) 0 n e ≡ 0) where
     pub event-code : askCode rec (event e) ≡ 0
     event-code = sym (code-is t rec (F .ready) (event e)) ∙ rw (F .kinds, F .still-open, F .events) z
 
     pub event-room : n < 1000000
-    event-room = accepted (netIn t) (wordsOf register) 0 n e z .few
+    event-room = accepted (netIn t) (kindsIn (netIn t) register) 0 n e z .few
 
     after : stateAt (askBytes rec (event e)) ≡ acceptS (netIn t) (stateAt rec) (event e)
     after = state-taken t rec (F .ready) (event e) event-code
@@ -68,29 +69,29 @@ module _ (t rec register : List ℕ) (n : ℕ) (F : Follows t rec register n) wh
 
   module _ (window : List ℕ) (from body at : ℕ) where
     abbrev readIn : Answer
-    readIn = readFrom (netIn t) (wordsOf register) n window from body at
+    readIn = readFrom (netIn t) (kindsIn (netIn t) register) n window from body at
 
     -- reading in the window from byte `from` on is reading at that byte of the window
-    pub read-at : (r : Answer) → r ≡ readFrom (netIn t) (wordsOf register) n (take (length window - from) (drop from window)) 0 body at → r ≡ readIn
+    pub read-at : (r : Answer) → r ≡ readFrom (netIn t) (kindsIn (netIn t) register) n (take (length window - from) (drop from window)) 0 body at → r ≡ readIn
     read-at r q =
-        q ∙ window-enough (netIn t) (ready-loaded t rec (F .ready)) (wordsOf register) n (take (length window - from) (drop from window)) window from
+        q ∙ window-enough (netIn t) (ready-loaded t rec (F .ready)) (kindsIn (netIn t) register) n (take (length window - from) (drop from window)) window from
         (ap (take 40) (take-all (length window - from) (drop from window) (omega (arith, length-drop from window)))) body at
 
     -- an event that was read is one that is accepted, and its objects stand in the window
-    pub read-handed : (r : Answer) → r ≡ readIn → r .found ≡ found.Event → Handed (netIn t) (wordsOf register) n (length window) from body at r
+    pub read-handed : (r : Answer) → r ≡ readIn → r .found ≡ found.Event → Handed (netIn t) (kindsIn (netIn t) register) n (length window) from body at r
     read-handed r q f =
-        subst (Handed (netIn t) (wordsOf register) n (length window) from body at) (sym q)
-        (handed (netIn t) (ready-loaded t rec (F .ready)) (wordsOf register) n window from body at (sym (ap (λ (a : Answer). a .found) q) ∙ f))
+        subst (Handed (netIn t) (kindsIn (netIn t) register) n (length window) from body at) (sym q)
+        (handed (netIn t) (ready-loaded t rec (F .ready)) (kindsIn (netIn t) register) n window from body at (sym (ap (λ (a : Answer). a .found) q) ∙ f))
 
     pub read-bytes : (r : Answer) → r ≡ readIn → r .found ≡ found.Event → wordsOf (take (4 * r .event .count) (drop (from + 8) window)) ≡ take (r .event .count) (r .event .objects)
     read-bytes r q f =
         subst (λ (r : Answer). wordsOf (take (4 * r .event .count) (drop (from + 8) window)) ≡ take (r .event .count) (r .event .objects)) (sym q)
-        (handed-bytes (netIn t) (ready-loaded t rec (F .ready)) (wordsOf register) n window from body at (sym (ap (λ (a : Answer). a .found) q) ∙ f))
+        (handed-bytes (netIn t) (ready-loaded t rec (F .ready)) (kindsIn (netIn t) register) n window from body at (sym (ap (λ (a : Answer). a .found) q) ∙ f))
 
 -- a step on a trail that is followed
 module _ (t rec register : List ℕ) (body : ℕ) (window : List ℕ) (s : Spot) (F : Follows t rec register (s .accepted)) (inside : s .from ≤ length window) where
   abbrev answered : Answer
-  answered = readFrom (netIn t) (wordsOf register) (s .accepted) window (s .from) body (s .at)
+  answered = readFrom (netIn t) (kindsIn (netIn t) register) (s .accepted) window (s .from) body (s .at)
 
   by-answer : Stepped t register (length window) s (trailAfter rec answered) (outcomeAfter s answered)
   by-answer = go (answered .found) refl
@@ -103,7 +104,7 @@ module _ (t rec register : List ℕ) (body : ℕ) (window : List ℕ) (s : Spot)
       go found.End e = record { follows = F; inside = inside; more = λ o. clash o }
       go (found.Refused c) e = record { follows = F; inside = inside; more = λ o. clash o }
 
-  pub stepped : (left : List ℕ) (r : Outcome) → left ≡ stepTrail (netIn t) (wordsOf register) window body rec s → r ≡ stepOutcome (netIn t) (wordsOf register) window body s
+  pub stepped : (left : List ℕ) (r : Outcome) → left ≡ stepTrail (netIn t) (kindsIn (netIn t) register) window body rec s → r ≡ stepOutcome (netIn t) (kindsIn (netIn t) register) window body s
       → Stepped t register (length window) s left r
   unfolding stepTrail stepOutcome
   stepped left r p q = subst (Stepped t register (length window) s left) (sym q) (subst (λ (l : List ℕ). Stepped t register (length window) s l (outcomeAfter s answered)) (sym p) by-answer)

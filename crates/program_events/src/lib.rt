@@ -11,9 +11,9 @@ use words::wide;
 ghost use mathlib.Core.Path.{_≡_};
 ghost use Prim.Native.Nat.{_≤_};
 ghost use lib.ListN.{length, take};
-ghost use Rattle.words.specs.Words.{wordsOf};
 ghost use Rattle.net.specs.Held.{netIn};
 ghost use Rattle.replay.specs.Ready.{Ready};
+ghost use Rattle.replay.specs.Register.{kindsIn};
 ghost use Rattle.program_events.specs.Follows.{Follows};
 ghost use Rattle.trace_reader.specs.Followed.{Followed, closedAfter};
 ghost use Rattle.program_events.specs.OneStep.{endingAfter, stops, leftBy, stepTrail, stepOutcome};
@@ -54,8 +54,8 @@ fn step(
 ) -> Outcome
     requires { ⌜ Follows (now t) (now rec) (now register) (spot .accepted) ⌝ }
     requires { ⌜ spot .from ≤ length (now window) ⌝ }
-    ensures trail { λ _. ⌜ now (rec .exit) ≡ stepTrail (netIn (now (t .entry))) (wordsOf (now (register .entry))) (now (window .entry)) body (now (rec .entry)) spot ⌝ }
-    ensures outcome { λ r. ⌜ r ≡ stepOutcome (netIn (now (t .entry))) (wordsOf (now (register .entry))) (now (window .entry)) body spot ⌝ }
+    ensures trail { λ _. ⌜ now (rec .exit) ≡ stepTrail (netIn (now (t .entry))) (kindsIn (netIn (now (t .entry))) (now (register .entry))) (now (window .entry)) body (now (rec .entry)) spot ⌝ }
+    ensures outcome { λ r. ⌜ r ≡ stepOutcome (netIn (now (t .entry))) (kindsIn (netIn (now (t .entry))) (now (register .entry))) (now (window .entry)) body spot ⌝ }
 {
     let from = spot.from;
     let accepted = spot.accepted;
@@ -98,7 +98,7 @@ fn steps(
 ) -> Outcome
     requires { ⌜ Follows (now t) (now rec) (now register) (start .accepted) ⌝ }
     requires { ⌜ start .from ≤ length (now window) ⌝ }
-    ensures kept { λ r. ⌜ Kept (netIn (now (t .entry))) (wordsOf (now (register .entry))) body (Window (now (window .entry)) least) (now (rec .entry)) start (now (rec .exit)) r ⌝ }
+    ensures kept { λ r. ⌜ Kept (netIn (now (t .entry))) (kindsIn (netIn (now (t .entry))) (now (register .entry))) body (Window (now (window .entry)) least) (now (rec .entry)) start (now (rec .exit)) r ⌝ }
     ensures follows { λ r. ⌜ Follows (now (t .entry)) (now (rec .exit)) (now (register .entry)) (r .spot .accepted) ⌝ }
     ensures inside { λ r. ⌜ r .spot .from ≤ length (now (window .entry)) ⌝ }
     ensures through { λ r. ⌜ Through (length (now (window .entry))) least start r ⌝ }
@@ -131,7 +131,7 @@ fn turn(
 ) -> Outcome
     requires { ⌜ Follows (now t) (now rec) (now register) (start .accepted) ⌝ }
     requires { ⌜ (start .from ≤ n) × (n ≤ length (now buf)) ⌝ }
-    ensures kept { λ r. ⌜ Kept (netIn (now (t .entry))) (wordsOf (now (register .entry))) body (Filled (now (buf .entry)) n) (now (rec .entry)) start (now (rec .exit)) r ⌝ }
+    ensures kept { λ r. ⌜ Kept (netIn (now (t .entry))) (kindsIn (netIn (now (t .entry))) (now (register .entry))) body (Filled (now (buf .entry)) n) (now (rec .entry)) start (now (rec .exit)) r ⌝ }
     ensures follows { λ r. ⌜ Follows (now (t .entry)) (now (rec .exit)) (now (register .entry)) (r .spot .accepted) ⌝ }
     ensures inside { λ r. ⌜ r .spot .from ≤ n ⌝ }
     ensures turned { λ r. ⌜ Turned (length (now (buf .entry))) n start r ⌝ }
@@ -154,7 +154,7 @@ fn all_events(
 ) -> Outcome
     requires { ⌜ Follows (now t) (now rec) (now register) 0 ⌝ }
     requires { ⌜ (40 ≤ length (now buf)) × (n ≤ length (now buf)) ⌝ }
-    ensures all { λ r. ⌜ OfSomeFile (netIn (now (t .entry))) (wordsOf (now (register .entry))) body (now (rec .entry)) (take n (now (buf .entry))) (length (now (buf .entry))) (_≡_ (leftBy (now (rec .exit)) r)) ⌝ }
+    ensures all { λ r. ⌜ OfSomeFile (netIn (now (t .entry))) (kindsIn (netIn (now (t .entry))) (now (register .entry))) body (now (rec .entry)) (take n (now (buf .entry))) (length (now (buf .entry))) (_≡_ (leftBy (now (rec .exit)) r)) ⌝ }
     ensures follows { λ r. ⌜ Follows (now (t .entry)) (now (rec .exit)) (now (register .entry)) (r .spot .accepted) ⌝ }
 {
     let mut there = n;
@@ -190,7 +190,7 @@ pub fn follow(
 ) -> Ending
     requires { ⌜ Follows (now t) (now rec) (now register) 0 ⌝ }
     requires { ⌜ (40 ≤ length (now buf)) × (n ≤ length (now buf)) ⌝ }
-    ensures ends { λ r. ⌜ OfSomeFile (netIn (now (t .entry))) (wordsOf (now (register .entry))) body (now (rec .entry)) (take n (now (buf .entry))) (length (now (buf .entry))) (λ (d : Followed). (r ≡ endingAfter d) × (now (rec .exit) ≡ closedAfter d)) ⌝ }
+    ensures ends { λ r. ⌜ OfSomeFile (netIn (now (t .entry))) (kindsIn (netIn (now (t .entry))) (now (register .entry))) body (now (rec .entry)) (take n (now (buf .entry))) (length (now (buf .entry))) (λ (d : Followed). (r ≡ endingAfter d) × (now (rec .exit) ≡ closedAfter d)) ⌝ }
     ensures ready { λ _. ⌜ Ready (now (t .entry)) (now (rec .exit)) ⌝ }
 {
     let s = all_events(rec, t, register, body, buf, n);

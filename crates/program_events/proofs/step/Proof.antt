@@ -9,6 +9,7 @@ use Rattle.words.specs.Words.{wordsOf}
 use Rattle.net.specs.Held.{netIn}
 use Rattle.replay.specs.Plain.{Event, event, refusal, eventOf, askEvent}
 use Rattle.replay.specs.Calls.{askBytes}
+use Rattle.replay.specs.Register.{kindsIn}
 use Rattle.trace_reader.specs.Trace.{readFrom}
 use Rattle.program_events.specs.declared.Outcome.{Outcome}
 use Rattle.program_events.specs.OneStep.{stops}
@@ -30,7 +31,7 @@ event-at c =
 
 -- the answer is the reading at the spot of the window
 answer-at : (c : tie.After-read-window)
-    → c .read-window .result ≡ readFrom (netIn (c .before .before .before .before .before .args .t .now)) (wordsOf (c .before .before .before .before .before .args .register .now)) (c .before .before .before .before .before .args .spot .accepted)
+    → c .read-window .result ≡ readFrom (netIn (c .before .before .before .before .before .args .t .now)) (kindsIn (netIn (c .before .before .before .before .before .args .t .now)) (c .before .before .before .before .before .args .register .now)) (c .before .before .before .before .before .args .spot .accepted)
     (c .before .before .before .before .before .args .window .now) (c .before .before .before .before .before .args .spot .from) (c .before .before .before .before .before .args .body) (c .before .before .before .before .before .args .spot .at)
 answer-at c =
     let s = c .before .before .before .before .before in
@@ -40,7 +41,7 @@ record Handed-at (c : tie.After-wide) : Type 0 where
   objects : event-at c .objs ≡ take (c .before .before .before .before .before .read-window .result .event .count) (c .before .before .before .before .before .read-window .result .event .objects)
   taken :
       let s = c .before .before .before .before .before .before .before .before .before .before in
-      refusal (netIn (s .args .t .now)) (wordsOf (s .args .register .now)) 0 (s .args .spot .accepted) (event-at c) ≡ 0
+      refusal (netIn (s .args .t .now)) (kindsIn (netIn (s .args .t .now)) (s .args .register .now)) 0 (s .args .spot .accepted) (event-at c) ≡ 0
   room : c .before .before .before .before .before .before .before .before .before .before .args .spot .accepted < 1000000
   there : c .before .before .before .before .before .before .before .before .before .before .args .spot .from + 8 + 4 * c .wide .result ≤ length (c .before .before .before .before .before .before .before .before .before .before .args .window .now)
 
@@ -58,7 +59,7 @@ handed-at c =
     ∙ read-bytes (s .args .t .now) (s .args .rec .now) (s .args .register .now) (s .args .spot .accepted) (s .pre .0) (s .args .window .now) from (s .args .body) (s .args .spot .at) (r .read-window .result) (answer-at r) f in
     record {
       objects = b;
-      taken = subst (λ (os : List ℕ). refusal (netIn (s .args .t .now)) (wordsOf (s .args .register .now)) 0 (s .args .spot .accepted) (eventOf (e .activity) os) ≡ 0) (sym b) (h .taken);
+      taken = subst (λ (os : List ℕ). refusal (netIn (s .args .t .now)) (kindsIn (netIn (s .args .t .now)) (s .args .register .now)) 0 (s .args .spot .accepted) (eventOf (e .activity) os) ≡ 0) (sym b) (h .taken);
       room = event-room (s .args .t .now) (s .args .rec .now) (s .args .register .now) (s .args .spot .accepted) (s .pre .0) (eventOf (e .activity) (take (e .count) (e .objects))) (h .taken);
       there = omega (arith, h .there, c .wide .ensures);
     }
@@ -125,7 +126,7 @@ returns : tie.Need-returns
 returns c =
     let s = c .before .before .before .before .before .before .before .before in
     let r = c .before .before .before in
-    let e = step-end (netIn (s .args .t .now)) (wordsOf (s .args .register .now)) (s .args .window .now) (s .args .body) (s .args .rec .now) (s .args .spot) (r .read-window .result) (answer-at r) (c .before .enum-told .given .1) in
+    let e = step-end (netIn (s .args .t .now)) (kindsIn (netIn (s .args .t .now)) (s .args .register .now)) (s .args .window .now) (s .args .body) (s .args .rec .now) (s .args .spot) (r .read-window .result) (answer-at r) (c .before .enum-told .given .1) in
     let o : c .stopped .result ≡ stops (s .args .spot) 0 = c .stopped .ensures in
     (e .0, o ∙ e .1)
 
@@ -133,7 +134,7 @@ returns-2 : tie.Need-returns-2
 returns-2 c =
     let s = c .before .before .before .before .before .before .before .before .before in
     let r = c .before .before .before .before in
-    let e = step-refused (netIn (s .args .t .now)) (wordsOf (s .args .register .now)) (s .args .window .now) (s .args .body) (s .args .rec .now) (s .args .spot) (r .read-window .result) (answer-at r) (c .before .before .found .given .0 .0) (c .before .before .found .given .1) in
+    let e = step-refused (netIn (s .args .t .now)) (kindsIn (netIn (s .args .t .now)) (s .args .register .now)) (s .args .window .now) (s .args .body) (s .args .rec .now) (s .args .spot) (r .read-window .result) (answer-at r) (c .before .before .found .given .0 .0) (c .before .before .found .given .1) in
     let o : c .stopped2 .result ≡ stops (s .args .spot) (c .before .before .found .given .0 .0) = c .stopped2 .ensures in
     (e .0, o ∙ e .1)
 
@@ -146,7 +147,7 @@ returns-3 c =
     let w = c .before .before .before .before .before in
     let r = w .before .before .before .before .before in
     let a = r .read-window .result in
-    let e = step-event (netIn (s .args .t .now)) (wordsOf (s .args .register .now)) (s .args .window .now) (s .args .body) (s .args .rec .now) (s .args .spot) a (answer-at r) (w .before .before .before .enum-told2 .given .1) in (
+    let e = step-event (netIn (s .args .t .now)) (kindsIn (netIn (s .args .t .now)) (s .args .register .now)) (s .args .window .now) (s .args .body) (s .args .rec .now) (s .args .spot) a (answer-at r) (w .before .before .before .enum-told2 .given .1) in (
       c .before .before .apply .ensures ∙ ap (λ (os : List ℕ). askBytes (s .args .rec .now) (askEvent (a .event .activity) os)) (handed-at w .objects) ∙ e .0,
       ap {B = Outcome} (λ (n : ℕ). record { spot = record { from = s .args .spot .from + 8 + 4 * n; at = a .next .at; accepted = s .args .spot .accepted + 1 }; over = false; code = 0 }) (w .wide .ensures) ∙ e .1,
     )
