@@ -2,6 +2,7 @@
 use Prim.Native.Nat.{ℕ}
 use mathlib.Core.Path.{_≡_}
 use mathlib.Core.List.{List}
+use Rattle.net.specs.Held.{netIn}
 use Rattle.replay.specs.Calls.{stateAt}
 use Rattle.replay.specs.Ready.{Ready}
 use Rattle.replay.specs.Register.{kindsIn}

@@ -54,4 +54,4 @@ module _ (N : Net) (ks b : List ℕ) (body : ℕ) where
 
   -- what comes of all events where reading stands as the outcome says, in a window that begins at byte i of b
   unfoldable pub goesOn : ℕ → List ℕ → Outcome → Followed
-  goesOn i trail r = pick (r .over) (leftBy trail r) (final trail (i + r .spot .from) (r .spot .at) (r .spot .accepted))
+  goesOn i trail r = pick (r .over) (leftBy trail r) (final N ks b body trail (i + r .spot .from) (r .spot .at) (r .spot .accepted))
