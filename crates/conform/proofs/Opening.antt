@@ -19,7 +19,7 @@ use Rattle.replay_start.proofs.StartLaws.{taken}
 use Rattle.trace_header.specs.declared.Contents.the-variants.{Bodies}
 use Rattle.trace_header.specs.Opening.{contentsTests, contentsOf, openCode}
 use Rattle.trace_header.proofs.OpenLaws.{contents-bodies, not-refused}
-use Rattle.program_events.specs.Follows.{Follows}
+use Rattle.program_step.specs.Follows.{Follows}
 use Rattle.replay.specs.Limits.{maxRecord}
 use Rattle.replay.specs.Register.{rowSize, kindsIn}
 

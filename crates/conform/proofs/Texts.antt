@@ -29,7 +29,7 @@ use Rattle.program_output.specs.declared.Ending.{Ending}
 use Rattle.program_output.specs.declared.Ending.the-variants.{Report, Refused}
 use Rattle.program_output.specs.Ending.{endingText, Printable}
 use Rattle.trace_reader.specs.Followed.{Followed, closedAfter, final}
-use Rattle.program_events.specs.OneStep.{endingAfter}
+use Rattle.program_events.specs.Ends.{endingAfter}
 use Rattle.program_events.specs.Window.{Begins, OfSomeFile}
 use Rattle.trace_reader.proofs.Behind.{final-behind}
 use Rattle.conform.specs.Program.{eventsText, programText}

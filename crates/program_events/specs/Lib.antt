@@ -1,3 +1,2 @@
-pub mod Follows
-pub mod OneStep
+pub mod Ends
 pub mod Window

@@ -9,12 +9,12 @@ use lib.ListN.{length, take, drop}
 use Rattle.net.specs.Net.{Net}
 use Rattle.net.specs.Held.{netIn}
 use Rattle.replay.specs.Register.{kindsIn}
-use Rattle.program_events.specs.declared.Spot.{Spot}
-use Rattle.program_events.specs.declared.Outcome.{Outcome}
-use Rattle.program_events.specs.Follows.{Follows}
-use Rattle.program_events.specs.OneStep.{leftBy}
+use Rattle.program_step.specs.declared.Spot.{Spot}
+use Rattle.program_step.specs.declared.Outcome.{Outcome}
+use Rattle.program_step.specs.Follows.{Follows}
+use Rattle.program_events.specs.Ends.{leftBy}
 use Rattle.program_events.specs.Window.{OfSomeFile}
-use Rattle.program_events.proofs.Following.{events-few}
+use Rattle.program_step.proofs.Following.{events-few}
 use Rattle.program_events.proofs.File.{Read, read-start, read-over, read-on}
 use Rattle.program_events.proofs.all_events.Statement.{statement}
 use Rattle.program_events.proofs.all_events.Tie as tie

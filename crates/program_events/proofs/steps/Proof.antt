@@ -10,11 +10,11 @@ use Rattle.words.proofs.Lists.{clash}
 use Rattle.net.specs.Held.{netIn}
 use Rattle.replay.specs.Register.{kindsIn}
 use Rattle.replay_objects.proofs.RecordLaws.{ready-loaded}
-use Rattle.program_events.specs.declared.Spot.{Spot}
-use Rattle.program_events.specs.declared.Outcome.{Outcome}
-use Rattle.program_events.specs.Follows.{Follows}
+use Rattle.program_step.specs.declared.Spot.{Spot}
+use Rattle.program_step.specs.declared.Outcome.{Outcome}
+use Rattle.program_step.specs.Follows.{Follows}
 use Rattle.program_events.specs.Window.{Window, Kept}
-use Rattle.program_events.proofs.Following.{Stepped, stepped, events-few}
+use Rattle.program_step.proofs.Following.{Stepped, stepped, events-few}
 use Rattle.program_events.proofs.Kept.{going, kept-start, kept-going, kept-step}
 use Rattle.program_events.proofs.steps.Statement.{statement}
 use Rattle.program_events.proofs.steps.Tie as tie

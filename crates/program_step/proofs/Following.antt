@@ -9,6 +9,7 @@ use lib.Seq.{take-all}
 use Rattle.words.specs.Lists.{All}
 use Rattle.words.specs.Words.{wordsOf}
 use Rattle.words.proofs.Lists.{All-at, clash}
+use Rattle.net.specs.Net.{Net}
 use Rattle.net.specs.Held.{netIn}
 use Rattle.replay.specs.Plain.{Event, event, refusal}
 use Rattle.replay.specs.State.{State, acceptS}
@@ -26,11 +27,11 @@ use Rattle.trace_reader.specs.Claims.{Handed}
 use Rattle.trace_reader.specs.Trace.{readFrom}
 use Rattle.trace_reader.proofs.HandedLaws.{handed, handed-bytes}
 use Rattle.trace_reader.proofs.WindowLaws.{window-enough}
-use Rattle.program_events.specs.Follows.{Follows}
+use Rattle.program_step.specs.Follows.{Follows}
 use Rattle.trace_reader.specs.Followed.{byFound}
-use Rattle.program_events.specs.OneStep.{behind, stops, trailAfter, outcomeAfter, stepTrail, stepOutcome}
-use Rattle.program_events.specs.declared.Spot.{Spot}
-use Rattle.program_events.specs.declared.Outcome.{Outcome}
+use Rattle.program_step.specs.OneStep.{behind, stops, trailAfter, outcomeAfter, stepTrail, stepOutcome}
+use Rattle.program_step.specs.declared.Spot.{Spot}
+use Rattle.program_step.specs.declared.Outcome.{Outcome}
 
 -- a step stays inside the window, and unless it is over one event more is accepted
 pub record Stepped (t register : List ℕ) (size : ℕ) (s : Spot) (left : List ℕ) (r : Outcome) : Type 0 where
@@ -108,3 +109,21 @@ module _ (t rec register : List ℕ) (body : ℕ) (window : List ℕ) (s : Spot)
       → Stepped t register (length window) s left r
   unfolding stepTrail stepOutcome
   stepped left r p q = subst (Stepped t register (length window) s left) (sym q) (subst (λ (l : List ℕ). Stepped t register (length window) s l (outcomeAfter s answered)) (sym p) by-answer)
+
+-- a step by the answer at its spot: an event, the end, a refusal
+module _ (N : Net) (ks w : List ℕ) (body : ℕ) (trail : List ℕ) (s : Spot) (a : Answer) (q : a ≡ readFrom N ks (s .accepted) w (s .from) body (s .at)) where
+  abbrev Is : List ℕ → Outcome → Type 0
+  Is left r = (left ≡ stepTrail N ks w body trail s) × (r ≡ stepOutcome N ks w body s)
+
+  answer-gives : Is (trailAfter trail a) (outcomeAfter s a)
+  unfolding stepTrail stepOutcome
+  answer-gives = (ap (trailAfter trail) q, ap (outcomeAfter s) q)
+
+  pub step-event : a .found ≡ found.Event → Is (askBytes trail (event (eventIn (a .event)))) (behind s a)
+  step-event e = rw e at answer-gives
+
+  pub step-end : a .found ≡ found.End → Is trail (stops s 0)
+  step-end e = rw e at answer-gives
+
+  pub step-refused : (c : ℕ) → a .found ≡ found.Refused c → Is trail (stops s c)
+  step-refused c e = rw e at answer-gives

@@ -11,13 +11,12 @@ use Rattle.replay.specs.Plain.{Event, event, refusal, eventOf, askEvent}
 use Rattle.replay.specs.Calls.{askBytes}
 use Rattle.replay.specs.Register.{kindsIn}
 use Rattle.trace_reader.specs.Trace.{readFrom}
-use Rattle.program_events.specs.declared.Outcome.{Outcome}
-use Rattle.program_events.specs.OneStep.{stops}
-use Rattle.program_events.proofs.Following.{kinds-known, event-code, event-room, read-at, read-handed, read-bytes}
-use Rattle.program_events.proofs.Kept.{step-event, step-end, step-refused}
+use Rattle.program_step.specs.declared.Outcome.{Outcome}
+use Rattle.program_step.specs.OneStep.{stops}
+use Rattle.program_step.proofs.Following.{kinds-known, event-code, event-room, read-at, read-handed, read-bytes, step-event, step-end, step-refused}
 use borrow.Author.Needs.{needs}
-use Rattle.program_events.proofs.step.Statement.{statement}
-use Rattle.program_events.proofs.step.Tie as tie
+use Rattle.program_step.proofs.step.Statement.{statement}
+use Rattle.program_step.proofs.step.Tie as tie
 
 -- the event handed out, its objects by the bytes in the window
 abbrev event-at : tie.After-wide → Event
