@@ -1,5 +1,5 @@
 // The cursor: it reads the events of a trail file one by one.
-// Above `trace_header`, which says where the events stand, `replay` and `net`; `program_events` uses it.
+// Above `trace_header`, which says where the events stand, `replay` and `net`; `program_step` uses it.
 
 use crate::objects::read_objects;
 use net::NetWords;
