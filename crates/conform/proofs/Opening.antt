@@ -1,10 +1,10 @@
 -- From the table file and the head of a trail file to a trail that is followed. Assumes nothing.
-use Prim.Native.Nat.{ℕ, _%_, _≤_}
+use Prim.Native.Nat.{ℕ, _*_, _%_, _≤_}
 use mathlib.Core.Path.{_≡_, ap, sym, subst, _∙_}
 use mathlib.Core.List.{List}
 use native.Mathlib.Omega.{arith}
 use lib.ListN.{length, take}
-use Rattle.words.specs.Words.{word, wordsOf}
+use Rattle.words.specs.Words.{word}
 use Rattle.words.proofs.Lists.{is-eq}
 use Rattle.words.proofs.Refusals.{none-apply}
 use Rattle.net.specs.Net.{Net}
@@ -19,8 +19,9 @@ use Rattle.replay_start.proofs.StartLaws.{taken}
 use Rattle.trace_header.specs.declared.Contents.the-variants.{Bodies}
 use Rattle.trace_header.specs.Opening.{contentsTests, contentsOf, openCode}
 use Rattle.trace_header.proofs.OpenLaws.{contents-bodies, not-refused}
-use Rattle.program_events.specs.Follows.{Follows}
+use Rattle.program_step.specs.Follows.{Follows}
 use Rattle.replay.specs.Limits.{maxRecord}
+use Rattle.replay.specs.Register.{rowSize, kindsIn}
 
 -- a register claims whole rows
 pub whole-rows : (f : List ℕ) (r e : ℕ) → contentsOf f ≡ Bodies r e → r % 4 ≡ 0
@@ -29,17 +30,17 @@ whole-rows f r e p =
     ap (λ (n : ℕ). n % 4) (q .1) ∙ is-eq (word f 4 % 4) 0 (none-apply (contentsTests f) (omega arith) (q .0) .1 .1 .1 .0)
 
 -- a register that is not refused
-pub register-startable : (t table register : List ℕ) (claimed there : ℕ) → Tabled t table → claimed % 4 ≡ 0 → length register ≡ there → there ≤ claimed → openCode (netIn t) claimed there (wordsOf register) ≡ 0
-    → Startable t table register × (registerCode (netOf table) (wordsOf register) ≡ 0)
+pub register-startable : (t table register : List ℕ) (claimed there : ℕ) → Tabled t table → claimed % (4 * rowSize (netOf table)) ≡ 0 → length register ≡ there → there ≤ claimed → openCode (netIn t) claimed there (kindsIn (netIn t) register) ≡ 0
+    → Startable t table register × (registerCode (netOf table) (kindsIn (netOf table) register) ≡ 0)
 register-startable t table register claimed there T m n h z =
-    let r = not-refused (netIn t) claimed there (wordsOf register) z in (
+    let r = not-refused (netIn t) claimed there (kindsIn (netIn t) register) z in (
       record { tabled = T; whole = omega (arith, r .0) },
-      ap (λ (N : Net). registerCode N (wordsOf register)) (sym (T .net)) ∙ r .1,
+      ap (λ (N : Net). registerCode N (kindsIn N register)) (sym (T .net)) ∙ r .1,
     )
 
 -- a trail that is started is followed from its first event on
-module _ (t table register : List ℕ) (S : Startable t table register) (ok : registerCode (netOf table) (wordsOf register) ≡ 0) where
-  begun : Follows t (startRecord table (wordsOf register)) register 0
+module _ (t table register : List ℕ) (S : Startable t table register) (ok : registerCode (netOf table) (kindsIn (netOf table) register) ≡ 0) where
+  begun : Follows t (startRecord table (kindsIn (netOf table) register)) register 0
   begun =
       let e = state-start t table register S ok in
       record {
@@ -50,11 +51,11 @@ module _ (t table register : List ℕ) (S : Startable t table register) (ok : re
       }
 
   -- starting cannot be refused, and leaves the record in front of the lent bytes
-  pub started : (lent b : List ℕ) (n : ℕ) → maxRecord ≤ length lent → b ≡ startBytes table (wordsOf register) lent → n ≡ length (startRecord table (wordsOf register))
-      → take n b ≡ startRecord table (wordsOf register)
+  pub started : (lent b : List ℕ) (n : ℕ) → maxRecord ≤ length lent → b ≡ startBytes table (kindsIn (netOf table) register) lent → n ≡ length (startRecord table (kindsIn (netOf table) register))
+      → take n b ≡ startRecord table (kindsIn (netOf table) register)
   started lent b n h e m =
       let z = taken table register lent ok (omega (arith, start-fits t table register S ok)) .0 in
-      rw (m, e) (start-front table (wordsOf register) lent (sym z))
+      rw (m, e) (start-front table (kindsIn (netOf table) register) lent (sym z))
 
-  pub started-follows : (b : List ℕ) → b ≡ startRecord table (wordsOf register) → Follows t b register 0
+  pub started-follows : (b : List ℕ) → b ≡ startRecord table (kindsIn (netOf table) register) → Follows t b register 0
   started-follows b e = subst (λ (x : List ℕ). Follows t x register 0) (sym e) begun

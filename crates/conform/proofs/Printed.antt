@@ -20,7 +20,7 @@ use Rattle.replay.proofs.Theorems.{sound-reached, counts-agree}
 use Rattle.report.specs.Report.{reportOf, reportAt}
 use Rattle.report.proofs.ReportLaws.{report-agrees}
 use Rattle.trace_header.specs.Opening.{shapeTests, registerOf, traceCode}
-use Rattle.program_events.proofs.Runs.{plain-run}
+use Rattle.trace_reader.proofs.Runs.{plain-run}
 use Rattle.conform.specs.Program.{readIn, cameOf, eventsText, programText, PrintsPlain}
 
 module _ (table f : List ℕ) (good : loadCode table ≡ 0) (opens : traceCode (netOf table) f ≡ 0) where
@@ -28,7 +28,7 @@ module _ (table f : List ℕ) (good : loadCode table ≡ 0) (opens : traceCode (
   N = netOf table
 
   abbrev ks : List ℕ
-  ks = registerOf f
+  ks = registerOf (netOf table) f
 
   L : Loaded N
   L = promise table good

@@ -6,13 +6,13 @@ use Rattle.net.specs.Rows.{tableM}
 use Rattle.replay.specs.Record.{encode, wordsFrom, tableIn, stateIn}
 use Rattle.replay.specs.Calls.{netAt, stateAt, askCode, askBytes, startRecord}
 use Rattle.text.specs.Decimal.{decimal}
-use Rattle.text.specs.Fitness.{thousandths, fitness}
+use Rattle.fitness.specs.Fitness.{thousandths, fitness}
 use Rattle.lines.specs.Lines.{lineOf}
 use Rattle.report.specs.TrailLines.{trailLineAt, placeLineAt, actLineAt, jumpLineAt}
 use Rattle.report.specs.Report.{reportAt}
 use Rattle.trace_header.specs.Opening.{registerOf, traceCode}
 use Rattle.trace_reader.specs.Trace.{readFrom}
-use Rattle.program_events.specs.Followed.{followed, final, closedAfter}
+use Rattle.trace_reader.specs.Followed.{followed, final, closedAfter}
 use Rattle.conform.specs.Program.{eventsText, programText}
 use Rattle.conform.specs.Rows.{trailOf, fourth, rows, RowsHold}
 

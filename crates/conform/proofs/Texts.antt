@@ -10,15 +10,16 @@ use lib.Seq.{take-append-le, take-append-seam, take-all, take-at, drop-at, drop-
 use borrow.Author.Tests.{eq-eqb, ne-eqb}
 use Rattle.words.specs.Lists.{pick}
 use Rattle.words.specs.Refusals.{first}
-use Rattle.words.specs.Words.{word, wordsOf}
+use Rattle.words.specs.Words.{word}
 use Rattle.net.specs.Net.{Net}
 use Rattle.net.specs.Table.{netOf, loadCode}
 use Rattle.net.specs.Held.{netIn}
 use Rattle.net.proofs.Promise.{promise}
 use Rattle.replay.specs.Calls.{startRecord}
 use Rattle.replay.specs.Ready.{Ready}
+use Rattle.replay.specs.Register.{kindsIn}
 use Rattle.replay_start.specs.Startable.{Startable}
-use Rattle.lines.specs.Lines.{refusedLine}
+use Rattle.report_lines.specs.ReportLines.{refusedLine}
 use Rattle.report.specs.Report.{reportAt}
 use Rattle.trace_header.specs.declared.Contents.the-variants.{Broken, Bodies}
 use Rattle.trace_header.specs.Opening.{contentsTests, contentsOf, registerOf, traceCode, openCode}
@@ -27,9 +28,10 @@ use Rattle.trace_header.proofs.SameBytes.{ltb-same}
 use Rattle.program_output.specs.declared.Ending.{Ending}
 use Rattle.program_output.specs.declared.Ending.the-variants.{Report, Refused}
 use Rattle.program_output.specs.Ending.{endingText, Printable}
-use Rattle.program_events.specs.Followed.{Followed, closedAfter, endingAfter, final}
+use Rattle.trace_reader.specs.Followed.{Followed, closedAfter, final}
+use Rattle.program_events.specs.Ends.{endingAfter}
 use Rattle.program_events.specs.Window.{Begins, OfSomeFile}
-use Rattle.program_events.proofs.Behind.{final-behind}
+use Rattle.trace_reader.proofs.Behind.{final-behind}
 use Rattle.conform.specs.Program.{eventsText, programText}
 use Rattle.conform.specs.FromFile.{FromFile, BehindContents, BehindRegister}
 
@@ -88,11 +90,11 @@ module _ (table : List ℕ) (good : loadCode table ≡ 0) where
     said : (first (contentsTests f) ≡ 0) × (claimed ≡ word f 4) × (body ≡ word f 12)
     said = contents-bodies f claimed body (sym (head-enough head f (sym (take-append-le 16 head rest (omega arith)))) ∙ bodies)
 
-    register-is : registerOf f ≡ wordsOf (take claimed rest)
+    register-is : registerOf N f ≡ kindsIn N (take claimed rest)
     unfolding registerOf
-    register-is = ap₂ (λ (n : ℕ) (l : List ℕ). wordsOf (take n l)) (sym (said .1)) (drop-at head rest 16 sixteen)
+    register-is = ap₂ (λ (n : ℕ) (l : List ℕ). kindsIn N (take n l)) (sym (said .1)) (drop-at head rest 16 sixteen)
 
-    opens : (there : ℕ) (ks : List ℕ) → (there < claimed → length rest < claimed) → (length rest < claimed → there < claimed) → (claimed ≤ there → claimed ≤ 4096 → ks ≡ wordsOf (take claimed rest))
+    opens : (there : ℕ) (ks : List ℕ) → (there < claimed → length rest < claimed) → (length rest < claimed → there < claimed) → (claimed ≤ there → claimed ≤ 4096 → ks ≡ kindsIn N (take claimed rest))
         → openCode N claimed there ks ≡ traceCode N f
     opens there ks less more kinds =
         let w : claimed ≡ word f 4 = said .1 in
@@ -102,28 +104,28 @@ module _ (table : List ℕ) (good : loadCode table ≡ 0) where
         (ltb-same there (word f 4) (length f) (16 + word f 4) (λ l. omega (arith, less (omega arith))) (λ l. omega (arith, more (omega arith))))
         (λ h l. kinds (omega arith) (omega arith) ∙ sym register-is))
 
-    opened-text : traceCode N f ≡ 0 → programText table f ≡ eventsText (final N (wordsOf (take claimed rest)) (drop claimed rest) body (startRecord table (wordsOf (take claimed rest))) 0 0 0)
+    opened-text : traceCode N f ≡ 0 → programText table f ≡ eventsText (final N (kindsIn N (take claimed rest)) (drop claimed rest) body (startRecord table (kindsIn N (take claimed rest))) 0 0 0)
     unfolding programText
     opened-text z =
         let w : claimed ≡ word f 4 = said .1 in
         let d : drop (16 + word f 4) f ≡ drop claimed rest = sym (drop-drop (word f 4) 16 f) ∙ ap₂ (λ (n : ℕ) (l : List ℕ). drop n l) (sym w) (drop-at head rest 16 sixteen) in
         rw (eq-eqb (loadCode table) 0 good, eq-eqb (traceCode N f) 0 z)
-        (ap eventsText (final-behind N (promise table good) (registerOf f) f (word f 12) (16 + word f 4) (startRecord table (registerOf f))
+        (ap eventsText (final-behind N (promise table good) (registerOf N f) f (word f 12) (16 + word f 4) (startRecord table (registerOf N f))
         ∙ rw (d, register-is, ← said .2) refl))
 
   -- a register that claims so many bytes, of which those given are there
   module _ (register : List ℕ) (claimed body : ℕ) (rec : List ℕ) (few : length register ≤ claimed) where
-    pub register-refused : (code : ℕ) → code ≡ openCode N claimed (length register) (wordsOf register) → (code ≡ 0 → ⊥) → BehindContents table claimed body register claimed (Refused code 0) rec
+    pub register-refused : (code : ℕ) → code ≡ openCode N claimed (length register) (kindsIn N register) → (code ≡ 0 → ⊥) → BehindContents table claimed body register claimed (Refused code 0) rec
     register-refused code e m = record {
       rest = register;
       begins = begins-all register claimed;
       text = λ head s b. refused-text (head ++ register) code
-          (e ∙ opens head register claimed body s b (length register) (wordsOf register) (λ l. l) (λ l. l) (λ l h. ap wordsOf (sym (take-all claimed register few)))) m;
+          (e ∙ opens head register claimed body s b (length register) (kindsIn N register) (λ l. l) (λ l. l) (λ l h. ap (kindsIn N) (sym (take-all claimed register few)))) m;
     }
 
-    pub register-taken : (r : Ending) → openCode N claimed (length register) (wordsOf register) ≡ 0 → BehindRegister table register body [] 0 r rec → BehindContents table claimed body register claimed r rec
+    pub register-taken : (r : Ending) → openCode N claimed (length register) (kindsIn N register) ≡ 0 → BehindRegister table register body [] 0 r rec → BehindContents table claimed body register claimed r rec
     register-taken r z B =
-        let h : claimed ≤ length register = not-refused N claimed (length register) (wordsOf register) z .0 in
+        let h : claimed ≤ length register = not-refused N claimed (length register) (kindsIn N register) z .0 in
         let n : length register ≡ claimed = omega arith in
         let t : take claimed (register ++ B .file) ≡ register = take-at register (B .file) claimed n in
         let d : drop claimed (register ++ B .file) ≡ B .file = drop-at register (B .file) claimed n in
@@ -133,7 +135,7 @@ module _ (table : List ℕ) (good : loadCode table ≡ 0) where
           text = λ head s b.
               B .came
               ∙ sym (opened-text head (register ++ B .file) claimed body s b
-              (sym (opens head (register ++ B .file) claimed body s b (length register) (wordsOf register) (λ l. absurd (omega arith)) (λ l. absurd (omega (arith, length-append register (B .file)))) (λ l k. ap wordsOf (sym t))) ∙ z)
+              (sym (opens head (register ++ B .file) claimed body s b (length register) (kindsIn N register) (λ l. absurd (omega arith)) (λ l. absurd (omega (arith, length-append register (B .file)))) (λ l k. ap (kindsIn N) (sym t))) ∙ z)
               ∙ rw (t, d) refl);
         }
 
@@ -171,12 +173,12 @@ module _ (d : Followed) (r : Ending) (part b : List ℕ) (e : r ≡ endingAfter 
       go false = tt
 
 -- the trail was started and followed
-pub begun : (t table register : List ℕ) → Startable t table register → (body : ℕ) (front : List ℕ) (room : ℕ) (r : Ending) (trail part tail : List ℕ) → trail ≡ startRecord table (wordsOf register)
-    → OfSomeFile (netIn t) (wordsOf register) body trail front room (λ (d : Followed). (r ≡ endingAfter d) × (part ≡ closedAfter d)) → Ready t part
+pub begun : (t table register : List ℕ) → Startable t table register → (body : ℕ) (front : List ℕ) (room : ℕ) (r : Ending) (trail part tail : List ℕ) → trail ≡ startRecord table (kindsIn (netOf table) register)
+    → OfSomeFile (netIn t) (kindsIn (netIn t) register) body trail front room (λ (d : Followed). (r ≡ endingAfter d) × (part ≡ closedAfter d)) → Ready t part
     → BehindRegister table register body front room r (part ++ tail) × Printable t (part ++ tail) r
 begun t table register S body front room r trail part tail e O R =
-    let d : Followed = final (netOf table) (wordsOf register) (O .file) body (startRecord table (wordsOf register)) 0 0 0 in
-    let q : final (netIn t) (wordsOf register) (O .file) body trail 0 0 0 ≡ d = ap₂ (λ (N : Net) (l : List ℕ). final N (wordsOf register) (O .file) body l 0 0 0) (S .tabled .net) e in
+    let d : Followed = final (netOf table) (kindsIn (netOf table) register) (O .file) body (startRecord table (kindsIn (netOf table) register)) 0 0 0 in
+    let q : final (netIn t) (kindsIn (netIn t) register) (O .file) body trail 0 0 0 ≡ d = ap₂ (λ (N : Net) (l : List ℕ). final N (kindsIn N register) (O .file) body l 0 0 0) (S .tabled .net) e in
     let a : r ≡ endingAfter d = O .came .0 ∙ ap endingAfter q in
     let b : part ≡ closedAfter d = O .came .1 ∙ ap closedAfter q in (
       record { file = O .file; begins = O .begins; came = followed-text d r part (part ++ tail) a b (take-append-seam part tail) },

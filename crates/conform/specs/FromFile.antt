@@ -4,14 +4,14 @@ use Prim.Native.Nat.{ℕ}
 use mathlib.Core.Path.{_≡_}
 use mathlib.Core.List.{List, _++_}
 use lib.ListN.{length}
-use Rattle.words.specs.Words.{wordsOf}
 use Rattle.net.specs.Table.{netOf}
 use Rattle.replay.specs.Calls.{startRecord}
+use Rattle.replay.specs.Register.{kindsIn}
 use Rattle.trace_header.specs.declared.Contents.the-variants.{Bodies}
 use Rattle.trace_header.specs.Opening.{contentsOf}
 use Rattle.program_output.specs.declared.Ending.{Ending}
 use Rattle.program_output.specs.Ending.{endingText}
-use Rattle.program_events.specs.Followed.{Followed}
+use Rattle.trace_reader.specs.Followed.{Followed}
 use Rattle.program_events.specs.Window.{Begins, OfSomeFile}
 use Rattle.conform.specs.Program.{eventsText, programText}
 
@@ -31,4 +31,4 @@ pub record BehindContents (table : List ℕ) (claimed body : ℕ) (front : List 
 -- the same of what stands behind a register that is taken: its events, carried out on the trail that is started
 abbrev pub BehindRegister : (table register : List ℕ) (body : ℕ) (front : List ℕ) (room : ℕ) (r : Ending) (rec : List ℕ) → Type 0
 BehindRegister table register body front room r rec =
-    OfSomeFile (netOf table) (wordsOf register) body (startRecord table (wordsOf register)) front room (λ (d : Followed). endingText r rec ≡ eventsText d)
+    OfSomeFile (netOf table) (kindsIn (netOf table) register) body (startRecord table (kindsIn (netOf table) register)) front room (λ (d : Followed). endingText r rec ≡ eventsText d)

@@ -9,11 +9,11 @@ use Rattle.words.specs.Lists.{pick}
 use Rattle.words.specs.Words.{word}
 use Rattle.net.specs.Table.{netOf, loadCode}
 use Rattle.replay.specs.Plain.{Event, event, close, start, run}
-use Rattle.lines.specs.Lines.{refusedLine}
+use Rattle.report_lines.specs.ReportLines.{refusedLine}
 use Rattle.report.specs.Report.{reportOf, reportAt}
 use Rattle.trace_header.specs.Opening.{registerOf, traceCode}
-use Rattle.program_events.specs.Followed.{Followed, closedAfter}
-use Rattle.program_events.specs.Claims.{read, came}
+use Rattle.trace_reader.specs.Followed.{Followed, closedAfter}
+use Rattle.trace_reader.specs.AllEvents.{read, came}
 
 -- once the events are read: the report of the closed trail, or the refusal of an event with the events accepted before it
 unfoldable pub eventsText : Followed → List ℕ
@@ -22,10 +22,10 @@ eventsText d = pick (eqb (d .code) 0) (reportAt (closedAfter d)) (refusedLine (d
 module _ (table f : List ℕ) where
   -- the events of the trail file f, and what comes of them on a started trail
   abbrev pub readIn : List Event
-  readIn = read table (registerOf f) f (word f 12) (16 + word f 4)
+  readIn = read table (registerOf (netOf table) f) f (word f 12) (16 + word f 4)
 
   abbrev pub cameOf : Followed
-  cameOf = came table (registerOf f) f (word f 12) (16 + word f 4)
+  cameOf = came table (registerOf (netOf table) f) f (word f 12) (16 + word f 4)
 
   -- the table's refusals come first, then those of opening the trail file, then the events'
   unfoldable pub programText : List ℕ
@@ -37,4 +37,4 @@ module _ (table f : List ℕ) where
   -- What is claimed of it: where nothing is refused, it is the report of the plain run over the file's events and a close.
   abbrev pub PrintsPlain : Type 0
   PrintsPlain = loadCode table ≡ 0 → traceCode (netOf table) f ≡ 0 → cameOf .code ≡ 0
-      → programText ≡ reportOf (netOf table) (run (netOf table) (start (registerOf f)) (map event readIn ++ close ∷ []))
+      → programText ≡ reportOf (netOf table) (run (netOf table) (start (registerOf (netOf table) f)) (map event readIn ++ close ∷ []))

@@ -21,10 +21,9 @@ use trace_header::opening_refusal;
 use trace_header::read_contents;
 ghost use mathlib.Core.Path.{_≡_};
 ghost use mathlib.Core.List.{[]};
-ghost use Prim.Native.Nat.{_%_, _<_, _≤_};
+ghost use Prim.Native.Nat.{_*_, _%_, _<_, _≤_};
 ghost use lib.ListN.{length, take, replicate};
 ghost use Rattle.net.specs.Held.{netIn, Held, Tabled};
-ghost use Rattle.words.specs.Words.{wordsOf};
 ghost use Rattle.net.specs.Table.{netOf};
 ghost use Rattle.replay.specs.Plain.{registerCode};
 ghost use Rattle.replay_start.specs.Startable.{Startable};
@@ -34,6 +33,7 @@ ghost use Rattle.program_output.specs.Ending.{Printable};
 ghost use Rattle.conform.specs.FromFile.{FromFile, BehindContents, BehindRegister};
 ghost use Rattle.net.specs.Limits.{netWords};
 ghost use Rattle.replay.specs.Limits.{maxRecord};
+ghost use Rattle.replay.specs.Register.{rowSize, kindsIn};
 
 // Room for the longest record.
 fn record_buffer() -> [u8; MAX_RECORD]
@@ -61,7 +61,7 @@ fn begin(
     n: usize,
 ) -> Ending
     requires { ⌜ Startable (now t) (now table) (now register) ⌝ }
-    requires { ⌜ registerCode (netOf (now table)) (wordsOf (now register)) ≡ 0 ⌝ }
+    requires { ⌜ registerCode (netOf (now table)) (kindsIn (netOf (now table)) (now register)) ≡ 0 ⌝ }
     requires { ⌜ maxRecord ≤ length (now rec) ⌝ }
     requires { ⌜ (40 ≤ length (now buf)) × (n ≤ length (now buf)) ⌝ }
     ensures text { λ r. ⌜ BehindRegister (now (table .entry)) (now (register .entry)) body (take n (now (buf .entry))) (length (now (buf .entry))) r (now (rec .exit)) ⌝ }
@@ -75,7 +75,7 @@ fn begin(
 // Reads the first part of the events.
 fn read_events(table: &[u8], t: &NetWords, register: &[u8], body: usize, rec: &mut [u8]) -> Ending
     requires { ⌜ Startable (now t) (now table) (now register) ⌝ }
-    requires { ⌜ registerCode (netOf (now table)) (wordsOf (now register)) ≡ 0 ⌝ }
+    requires { ⌜ registerCode (netOf (now table)) (kindsIn (netOf (now table)) (now register)) ≡ 0 ⌝ }
     requires { ⌜ maxRecord ≤ length (now rec) ⌝ }
     ensures text { λ r. ⌜ BehindRegister (now (table .entry)) (now (register .entry)) body [] 0 r (now (rec .exit)) ⌝ }
     ensures printable { λ r. ⌜ Printable (now (t .entry)) (now (rec .exit)) r ⌝ }
@@ -95,7 +95,7 @@ fn open_register(
     rec: &mut [u8],
 ) -> Ending
     requires { ⌜ Tabled (now t) (now table) ⌝ }
-    requires { ⌜ claimed % 4 ≡ 0 ⌝ }
+    requires { ⌜ claimed % (4 * rowSize (netOf (now table))) ≡ 0 ⌝ }
     requires { ⌜ length (now register) ≤ claimed ⌝ }
     requires { ⌜ maxRecord ≤ length (now rec) ⌝ }
     ensures text { λ r. ⌜ BehindContents (now (table .entry)) claimed body (now (register .entry)) claimed r (now (rec .exit)) ⌝ }
@@ -111,7 +111,7 @@ fn open_register(
 // Reads a register that can be held whole.
 fn read_register(table: &[u8], t: &NetWords, claimed: usize, body: usize, rec: &mut [u8]) -> Ending
     requires { ⌜ Tabled (now t) (now table) ⌝ }
-    requires { ⌜ (claimed % 4 ≡ 0) × (claimed ≤ 4096) ⌝ }
+    requires { ⌜ (claimed % (4 * rowSize (netOf (now table))) ≡ 0) × (claimed ≤ 4096) ⌝ }
     requires { ⌜ maxRecord ≤ length (now rec) ⌝ }
     ensures text { λ r. ⌜ BehindContents (now (table .entry)) claimed body [] 0 r (now (rec .exit)) ⌝ }
     ensures printable { λ r. ⌜ Printable (now (t .entry)) (now (rec .exit)) r ⌝ }
@@ -135,7 +135,7 @@ fn pass_register(t: &NetWords, claimed: usize, there: usize) -> Ending
 // A trail file whose contents claim bodies of so many bytes.
 fn open_bodies(table: &[u8], t: &NetWords, claimed: usize, body: usize, rec: &mut [u8]) -> Ending
     requires { ⌜ Tabled (now t) (now table) ⌝ }
-    requires { ⌜ claimed % 4 ≡ 0 ⌝ }
+    requires { ⌜ claimed % (4 * rowSize (netOf (now table))) ≡ 0 ⌝ }
     requires { ⌜ maxRecord ≤ length (now rec) ⌝ }
     ensures text { λ r. ⌜ BehindContents (now (table .entry)) claimed body [] 0 r (now (rec .exit)) ⌝ }
     ensures printable { λ r. ⌜ Printable (now (t .entry)) (now (rec .exit)) r ⌝ }

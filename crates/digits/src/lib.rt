@@ -1,4 +1,4 @@
-// The three digits of a number below 1,000, from the mark-sheet printer's table of digit codes. It uses nothing; `text` writes FIT
+// The three digits of a number below 1,000, from the mark-sheet printer's table of digit codes. It uses nothing; `fitness` writes FIT
 // by it.
 
 ghost use mathlib.Core.Path.{_≡_};

@@ -12,10 +12,11 @@ use Rattle.replay.specs.Plain.{close}
 use Rattle.replay.specs.Calls.{askBytes}
 use Rattle.program_output.specs.declared.Ending.{Ending}
 use Rattle.program_output.specs.declared.Ending.the-variants.{Report, Refused}
-use Rattle.program_events.specs.Followed.{Followed, closedAfter, endingAfter, leftBy, final, goesOn}
+use Rattle.trace_reader.specs.Followed.{Followed, closedAfter, final}
+use Rattle.program_events.specs.Ends.{endingAfter, leftBy, goesOn}
 use Rattle.program_events.specs.Window.{Filled, Kept, Begins, OfSomeFile}
-use Rattle.program_events.specs.declared.Spot.{Spot}
-use Rattle.program_events.specs.declared.Outcome.{Outcome}
+use Rattle.program_step.specs.declared.Spot.{Spot}
+use Rattle.program_step.specs.declared.Outcome.{Outcome}
 
 module _ (N : Net) (ks : List ℕ) (body : ℕ) (trail front : List ℕ) (room : ℕ) where
   -- The bytes read so far: those used, and the first n of the buffer. Whatever follows them, which is nothing where they do not

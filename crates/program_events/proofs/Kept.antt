@@ -18,32 +18,16 @@ use Rattle.trace_reader.specs.declared.Found.the-variants as found
 use Rattle.trace_reader.specs.Answers.{eventIn}
 use Rattle.trace_reader.specs.Trace.{readFrom}
 use Rattle.trace_reader.proofs.WindowLaws.{window-enough}
-use Rattle.program_events.specs.Followed.{byFound, behind, stops, trailAfter, outcomeAfter, stepTrail, stepOutcome, followed, final, goesOn}
+use Rattle.trace_reader.specs.Followed.{byFound, followed, final}
+use Rattle.program_step.specs.OneStep.{behind, stops, trailAfter, outcomeAfter, stepTrail, stepOutcome}
+use Rattle.program_events.specs.Ends.{goesOn}
 use Rattle.program_events.specs.Window.{Window, Filled, Kept}
-use Rattle.program_events.specs.declared.Spot.{Spot}
-use Rattle.program_events.specs.declared.Outcome.{Outcome}
+use Rattle.program_step.specs.declared.Spot.{Spot}
+use Rattle.program_step.specs.declared.Outcome.{Outcome}
 
 -- reading goes on at a spot
 abbrev pub going : Spot → Outcome
 going s = record { spot = s; over = false; code = 0 }
-
--- a step by the answer at its spot: an event, the end, a refusal
-module _ (N : Net) (ks w : List ℕ) (body : ℕ) (trail : List ℕ) (s : Spot) (a : Answer) (q : a ≡ readFrom N ks (s .accepted) w (s .from) body (s .at)) where
-  abbrev Is : List ℕ → Outcome → Type 0
-  Is left r = (left ≡ stepTrail N ks w body trail s) × (r ≡ stepOutcome N ks w body s)
-
-  by-answer : Is (trailAfter trail a) (outcomeAfter s a)
-  unfolding stepTrail stepOutcome
-  by-answer = (ap (trailAfter trail) q, ap (outcomeAfter s) q)
-
-  pub step-event : a .found ≡ found.Event → Is (askBytes trail (event (eventIn (a .event)))) (behind s a)
-  step-event e = rw e at by-answer
-
-  pub step-end : a .found ≡ found.End → Is trail (stops s 0)
-  step-end e = rw e at by-answer
-
-  pub step-refused : (c : ℕ) → a .found ≡ found.Refused c → Is trail (stops s c)
-  step-refused c e = rw e at by-answer
 
 -- 40 bytes of a list, and of what it is the front of
 front : (a rest : List ℕ) → (length a < 40 → rest ≡ []) → take 40 a ≡ take 40 (a ++ rest)

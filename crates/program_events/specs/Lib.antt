@@ -1,4 +1,2 @@
-pub mod Follows
-pub mod Followed
+pub mod Ends
 pub mod Window
-pub mod Claims

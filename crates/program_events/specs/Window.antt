@@ -5,9 +5,10 @@ use mathlib.Core.Path.{_≡_}
 use mathlib.Core.List.{List}
 use lib.ListN.{length, take, drop}
 use Rattle.net.specs.Net.{Net}
-use Rattle.program_events.specs.declared.Spot.{Spot}
-use Rattle.program_events.specs.declared.Outcome.{Outcome}
-use Rattle.program_events.specs.Followed.{Followed, final, goesOn}
+use Rattle.program_step.specs.declared.Spot.{Spot}
+use Rattle.program_step.specs.declared.Outcome.{Outcome}
+use Rattle.trace_reader.specs.Followed.{Followed, final}
+use Rattle.program_events.specs.Ends.{goesOn}
 
 -- w is the part of the file f from byte i on, and its last where a step is made with fewer than 40 bytes left
 pub record Window (w : List ℕ) (least : ℕ) (f : List ℕ) (i : ℕ) : Type 0 where

@@ -1,89 +1,23 @@
 // The events of a trail, carried out one by one in a window of its file that is filled up from standard input; then the close.
 // What is given back is what is to be printed: `conform` prints it.
-// Above `trace_reader`, `replay_event`, `replay_close`, `program_output` and `program_input`; `conform` uses it once a trail is started.
+// Above `program_step`, `replay_close`, `program_output` and `program_input`; `conform` uses it once a trail is started.
 
 use net::NetWords;
 use program_input::refill;
 use program_output::Ending;
-use trace_reader::Cursor;
-use trace_reader::Found;
-use words::wide;
+use program_step::Outcome;
+use program_step::Spot;
+use program_step::step;
 ghost use mathlib.Core.Path.{_≡_};
 ghost use Prim.Native.Nat.{_≤_};
 ghost use lib.ListN.{length, take};
-ghost use Rattle.words.specs.Words.{wordsOf};
 ghost use Rattle.net.specs.Held.{netIn};
 ghost use Rattle.replay.specs.Ready.{Ready};
-ghost use Rattle.program_events.specs.Follows.{Follows};
-ghost use Rattle.program_events.specs.Followed.{Followed, closedAfter, endingAfter, stops, leftBy, stepTrail, stepOutcome};
+ghost use Rattle.replay.specs.Register.{kindsIn};
+ghost use Rattle.program_step.specs.Follows.{Follows};
+ghost use Rattle.trace_reader.specs.Followed.{Followed, closedAfter};
+ghost use Rattle.program_events.specs.Ends.{endingAfter, leftBy};
 ghost use Rattle.program_events.specs.Window.{Window, Filled, Kept, OfSomeFile, Through, Turned};
-
-// Where the reading stands: byte `from` of the window is byte `at` of the events body, and `accepted` events are accepted.
-pub struct Spot {
-    pub from: usize,
-    pub at: usize,
-    pub accepted: u32,
-}
-
-// Once it is over, `code` is the number of the refusal, or 0 at the end of the body.
-pub struct Outcome {
-    pub spot: Spot,
-    pub over: bool,
-    pub code: u32,
-}
-
-fn stopped(spot: Spot, code: u32) -> Outcome
-    ensures { λ r. ⌜ r ≡ stops spot code ⌝ }
-{
-    Outcome {
-        spot,
-        over: true,
-        code,
-    }
-}
-
-// Reads one event at the spot and carries it out.
-fn step(
-    rec: &mut [u8],
-    t: &NetWords,
-    register: &[u8],
-    body: usize,
-    window: &[u8],
-    spot: Spot,
-) -> Outcome
-    requires { ⌜ Follows (now t) (now rec) (now register) (spot .accepted) ⌝ }
-    requires { ⌜ spot .from ≤ length (now window) ⌝ }
-    ensures trail { λ _. ⌜ now (rec .exit) ≡ stepTrail (netIn (now (t .entry))) (wordsOf (now (register .entry))) (now (window .entry)) body (now (rec .entry)) spot ⌝ }
-    ensures outcome { λ r. ⌜ r ≡ stepOutcome (netIn (now (t .entry))) (wordsOf (now (register .entry))) (now (window .entry)) body spot ⌝ }
-{
-    let from = spot.from;
-    let accepted = spot.accepted;
-    let cursor = Cursor { at: spot.at };
-    let answer = cursor.read_window(&window[from..], body, accepted, register, t);
-    let found = answer.found;
-    match found {
-        Found::End => stopped(spot, 0),
-        Found::Refused(code) => stopped(spot, code),
-        Found::Event => {
-            let event = answer.event;
-            let next = answer.next;
-            let n = wide(event.count);
-            let act = event.activity;
-            let first = from + 8;
-            let last = first + 4 * n;
-            replay_event::event::apply(rec, t, act, &window[first..last]);
-            Outcome {
-                spot: Spot {
-                    from: last,
-                    at: next.at,
-                    accepted: accepted + 1,
-                },
-                over: false,
-                code: 0,
-            }
-        }
-    }
-}
 
 // Reads and carries out events until it is over or fewer than `least` bytes of the window are left.
 fn steps(
@@ -97,7 +31,7 @@ fn steps(
 ) -> Outcome
     requires { ⌜ Follows (now t) (now rec) (now register) (start .accepted) ⌝ }
     requires { ⌜ start .from ≤ length (now window) ⌝ }
-    ensures kept { λ r. ⌜ Kept (netIn (now (t .entry))) (wordsOf (now (register .entry))) body (Window (now (window .entry)) least) (now (rec .entry)) start (now (rec .exit)) r ⌝ }
+    ensures kept { λ r. ⌜ Kept (netIn (now (t .entry))) (kindsIn (netIn (now (t .entry))) (now (register .entry))) body (Window (now (window .entry)) least) (now (rec .entry)) start (now (rec .exit)) r ⌝ }
     ensures follows { λ r. ⌜ Follows (now (t .entry)) (now (rec .exit)) (now (register .entry)) (r .spot .accepted) ⌝ }
     ensures inside { λ r. ⌜ r .spot .from ≤ length (now (window .entry)) ⌝ }
     ensures through { λ r. ⌜ Through (length (now (window .entry))) least start r ⌝ }
@@ -130,7 +64,7 @@ fn turn(
 ) -> Outcome
     requires { ⌜ Follows (now t) (now rec) (now register) (start .accepted) ⌝ }
     requires { ⌜ (start .from ≤ n) × (n ≤ length (now buf)) ⌝ }
-    ensures kept { λ r. ⌜ Kept (netIn (now (t .entry))) (wordsOf (now (register .entry))) body (Filled (now (buf .entry)) n) (now (rec .entry)) start (now (rec .exit)) r ⌝ }
+    ensures kept { λ r. ⌜ Kept (netIn (now (t .entry))) (kindsIn (netIn (now (t .entry))) (now (register .entry))) body (Filled (now (buf .entry)) n) (now (rec .entry)) start (now (rec .exit)) r ⌝ }
     ensures follows { λ r. ⌜ Follows (now (t .entry)) (now (rec .exit)) (now (register .entry)) (r .spot .accepted) ⌝ }
     ensures inside { λ r. ⌜ r .spot .from ≤ n ⌝ }
     ensures turned { λ r. ⌜ Turned (length (now (buf .entry))) n start r ⌝ }
@@ -153,7 +87,7 @@ fn all_events(
 ) -> Outcome
     requires { ⌜ Follows (now t) (now rec) (now register) 0 ⌝ }
     requires { ⌜ (40 ≤ length (now buf)) × (n ≤ length (now buf)) ⌝ }
-    ensures all { λ r. ⌜ OfSomeFile (netIn (now (t .entry))) (wordsOf (now (register .entry))) body (now (rec .entry)) (take n (now (buf .entry))) (length (now (buf .entry))) (_≡_ (leftBy (now (rec .exit)) r)) ⌝ }
+    ensures all { λ r. ⌜ OfSomeFile (netIn (now (t .entry))) (kindsIn (netIn (now (t .entry))) (now (register .entry))) body (now (rec .entry)) (take n (now (buf .entry))) (length (now (buf .entry))) (_≡_ (leftBy (now (rec .exit)) r)) ⌝ }
     ensures follows { λ r. ⌜ Follows (now (t .entry)) (now (rec .exit)) (now (register .entry)) (r .spot .accepted) ⌝ }
 {
     let mut there = n;
@@ -189,7 +123,7 @@ pub fn follow(
 ) -> Ending
     requires { ⌜ Follows (now t) (now rec) (now register) 0 ⌝ }
     requires { ⌜ (40 ≤ length (now buf)) × (n ≤ length (now buf)) ⌝ }
-    ensures ends { λ r. ⌜ OfSomeFile (netIn (now (t .entry))) (wordsOf (now (register .entry))) body (now (rec .entry)) (take n (now (buf .entry))) (length (now (buf .entry))) (λ (d : Followed). (r ≡ endingAfter d) × (now (rec .exit) ≡ closedAfter d)) ⌝ }
+    ensures ends { λ r. ⌜ OfSomeFile (netIn (now (t .entry))) (kindsIn (netIn (now (t .entry))) (now (register .entry))) body (now (rec .entry)) (take n (now (buf .entry))) (length (now (buf .entry))) (λ (d : Followed). (r ≡ endingAfter d) × (now (rec .exit) ≡ closedAfter d)) ⌝ }
     ensures ready { λ _. ⌜ Ready (now (t .entry)) (now (rec .exit)) ⌝ }
 {
     let s = all_events(rec, t, register, body, buf, n);

@@ -12,7 +12,7 @@ use Rattle.text.specs.Decimal.{decimal}
 use Rattle.text.specs.declared.field.Word.the-variants as word
 use Rattle.text.specs.declared.field.Field.the-variants as field
 use Rattle.text.proofs.DecimalLaws.{short}
-use Rattle.lines.specs.Lines.{refusedLine}
+use Rattle.report_lines.specs.ReportLines.{refusedLine}
 use Rattle.lines.specs.Answer.{sizeOf, lineCode, Writes}
 use Rattle.lines.specs.declared.LineAnswer.{LineAnswer}
 use Rattle.lines.proofs.LineLaws.{line-length}

@@ -3,7 +3,7 @@ use Prim.Native.Nat.{ℕ, _≤_}
 use mathlib.Core.List.{List, []}
 use lib.ListN.{length, take}
 use Rattle.replay.specs.Ready.{Ready}
-use Rattle.lines.specs.Lines.{refusedLine}
+use Rattle.report_lines.specs.ReportLines.{refusedLine}
 use Rattle.report.specs.Report.{reportAt}
 use Rattle.program_output.specs.declared.Ending.{Ending}
 use Rattle.program_output.specs.declared.Ending.the-variants.{Report, Refused}

@@ -1,5 +1,5 @@
 // What the program prints, on standard output: the report (the sheet), or the line of a refusal.
-// Above `report_parts` and `lines`. `program_events` and `conform` say what is to be printed, and `conform` has it printed.
+// Above `report_parts` and `report_lines`. `program_events` and `conform` say what is to be printed, and `conform` has it printed.
 
 use lines::size;
 use net::NetWords;
@@ -28,7 +28,7 @@ fn refusal_line(ending: Ending, out: &mut [u8]) -> usize
 {
     match ending {
         Ending::Report(_) => 0,
-        Ending::Refused { code, events } => size(lines::refused_line(code, events, out)),
+        Ending::Refused { code, events } => size(report_lines::refused_line(code, events, out)),
     }
 }
 

@@ -24,15 +24,16 @@ use Rattle.replay.proofs.Accepted.{closers-length, closers-kinds}
 use Rattle.replay.proofs.Encode.{fired-le, jumps-le, closing-few, pairs-le}
 use Rattle.replay_counts.specs.Reads.{placeTests, placeCode, actTests, actCode, pairTests, pairCode}
 use Rattle.text.proofs.DecimalLaws.{short}
-use Rattle.text.specs.Fitness.{fitness, fitnessText}
+use Rattle.fitness.specs.Fitness.{fitness, fitnessText}
 use Rattle.text.specs.Fields.{wordText, fieldText}
-use Rattle.text.specs.declared.fitness.Fitness.{Fitness}
-use Rattle.text.specs.declared.fitness.Fitness.the-variants.{Undefined, Thousandths}
+use Rattle.fitness.specs.declared.Fitness.{Fitness}
+use Rattle.fitness.specs.declared.Fitness.the-variants.{Undefined, Thousandths}
 use Rattle.text.specs.declared.field.Word.{Word}
 use Rattle.text.specs.declared.field.Word.the-variants as word
 use Rattle.text.specs.declared.field.Field.{Field}
 use Rattle.text.specs.declared.field.Field.the-variants as field
-use Rattle.lines.specs.Lines.{fieldsText, lineOf, refusedLine}
+use Rattle.lines.specs.Lines.{fieldsText, lineOf}
+use Rattle.report_lines.specs.ReportLines.{refusedLine}
 use Rattle.lines.specs.Answer.{lineCode}
 use Rattle.lines.proofs.LineLaws.{line-length}
 use Rattle.report.specs.TrailLines.{trailLineAt, placeLineAt, actLineAt, jumpLineAt}

@@ -6,9 +6,10 @@ use lib.ListN.{length}
 use Rattle.replay.specs.Rows.{M}
 use Rattle.report.specs.Report.{reportOf}
 use Rattle.text.specs.Decimal.{decimal}
-use Rattle.text.specs.Fitness.{thousandths, fitness}
+use Rattle.fitness.specs.Fitness.{thousandths, fitness}
 use Rattle.text.proofs.DecimalLaws.{digits-are}
-use Rattle.lines.specs.Lines.{lineOf, trailLine}
+use Rattle.lines.specs.Lines.{lineOf}
+use Rattle.report_lines.specs.ReportLines.{trailLine}
 use Rattle.report.specs.Rows.{lines, longest, rounding, whole, RowsHold}
 use Rattle.report.specs.Lengths.{maxLine}
 

@@ -15,7 +15,7 @@ use Rattle.replay_counts.specs.declared.ActCounts.{ActCounts}
 use Rattle.replay_counts.specs.declared.ActRead.the-variants as act
 use Rattle.replay_counts.specs.declared.PairRead.the-variants as pair
 use Rattle.replay_counts.specs.declared.TrailCounts.{TrailCounts}
-use Rattle.lines.specs.Lines.{trailLine, placeLine, actLine, jumpLine}
+use Rattle.report_lines.specs.ReportLines.{trailLine, placeLine, actLine, jumpLine}
 use Rattle.report.specs.TrailLines.{trailLineAt, placeLineAt, actLineAt, jumpLineAt}
 
 pub place-held : (u : Bool) (v k : PlaceCounts) → pick u place.Unknown (place.Counts v) ≡ place.Counts k → k ≡ v

@@ -9,7 +9,7 @@ use Rattle.replay.specs.Plain.{Plain}
 use Rattle.replay.specs.Counts.{transfers, allJumps, consumed, jumpsIn, jumpsOut, pairJumps, fired, moved, jumps}
 use Rattle.replay.specs.Calls.{netAt}
 use Rattle.replay.specs.Rows.{pairsBelow}
-use Rattle.lines.specs.Lines.{trailLine, placeLine, actLine, jumpLine}
+use Rattle.report_lines.specs.ReportLines.{trailLine, placeLine, actLine, jumpLine}
 use Rattle.report.specs.TrailLines.{trailLineAt, placeLineAt, actLineAt, jumpLineAt}
 
 -- the texts of the elements, one behind the other

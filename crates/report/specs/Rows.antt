@@ -7,8 +7,8 @@ use Rattle.words.specs.Lists.{All}
 use Rattle.replay.specs.Plain.{close, start, run, askEvent}
 use Rattle.replay.specs.Rows.{M, three}
 use Rattle.text.specs.Text.{ascii}
-use Rattle.text.specs.Fitness.{fitness, fitnessText}
-use Rattle.lines.specs.Lines.{trailLine, placeLine, actLine, jumpLine}
+use Rattle.fitness.specs.Fitness.{fitness, fitnessText}
+use Rattle.report_lines.specs.ReportLines.{trailLine, placeLine, actLine, jumpLine}
 use Rattle.report.specs.Report.{reportOf}
 
 pub record Row : Type 0 where

@@ -4,7 +4,7 @@ use mathlib.Core.List.{List}
 use lib.ListN.{length, getD}
 use Rattle.replay.specs.State.{storedConsumed, storedPair, storedJumpsIn, storedJumpsOut, storedMoved, storedJumps, storedTransfers}
 use Rattle.replay.specs.Calls.{netAt, stateAt}
-use Rattle.lines.specs.Lines.{trailLine, placeLine, actLine, jumpLine}
+use Rattle.report_lines.specs.ReportLines.{trailLine, placeLine, actLine, jumpLine}
 
 unfoldable pub trailLineAt : List ℕ → List ℕ
 trailLineAt b =

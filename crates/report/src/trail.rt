@@ -21,7 +21,7 @@ pub fn trail_line(rec: &[u8], t: &NetWords, out: &mut [u8]) -> LineAnswer
     ensures { λ r. ⌜ Writes [] (trailLineAt (now (rec .entry))) (now (out .entry)) r (now (out .exit)) ⌝ }
 {
     let k = read_trail(rec, t);
-    lines::trail_line(k.objects, k.events, k.jumps, k.transfers, out)
+    report_lines::trail_line(k.objects, k.events, k.jumps, k.transfers, out)
 }
 
 // The line of place q.
@@ -31,7 +31,13 @@ pub fn place_line(rec: &[u8], t: &NetWords, q: u32, out: &mut [u8]) -> LineAnswe
 {
     match read_place(rec, t, q) {
         PlaceRead::Unknown => LineAnswer::UnknownPlace,
-        PlaceRead::Counts(k) => lines::place_line(q, k.consumed, k.jumps_in, k.jumps_out, out),
+        PlaceRead::Counts(k) => report_lines::place_line(
+            q,
+            k.consumed,
+            k.jumps_in,
+            k.jumps_out,
+            out,
+        ),
     }
 }
 
@@ -42,7 +48,7 @@ pub fn act_line(rec: &[u8], t: &NetWords, a: u32, out: &mut [u8]) -> LineAnswer
 {
     match read_act(rec, t, a) {
         ActRead::Unknown => LineAnswer::UnknownActivity,
-        ActRead::Counts(k) => lines::act_line(a, k.fired, k.moved, k.jumps, out),
+        ActRead::Counts(k) => report_lines::act_line(a, k.fired, k.moved, k.jumps, out),
     }
 }
 
@@ -53,6 +59,6 @@ pub fn jump_line(rec: &[u8], t: &NetWords, from: u32, to: u32, out: &mut [u8]) -
 {
     match read_pair(rec, t, from, to) {
         PairRead::Unknown => LineAnswer::UnknownPlace,
-        PairRead::Count(n) => lines::jump_line(from, to, n, out),
+        PairRead::Count(n) => report_lines::jump_line(from, to, n, out),
     }
 }

@@ -3,7 +3,7 @@ use Prim.Native.Nat.{ℕ}
 use mathlib.Core.List.{List, [], _∷_}
 use Rattle.text.specs.Text.{ascii}
 use Rattle.text.specs.Decimal.{decimal}
-use Rattle.text.specs.Fitness.{fitness, fitnessText}
+use Rattle.fitness.specs.Fitness.{fitness, fitnessText}
 use Rattle.text.specs.declared.field.Word.{Word}
 use Rattle.text.specs.declared.field.Word.the-variants.{Trail, Place, Act, Jump, Refused}
 use Rattle.text.specs.declared.field.Field.{Field}

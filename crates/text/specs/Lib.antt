@@ -1,4 +1,3 @@
 pub mod Text
 pub mod Decimal
-pub mod Fitness
 pub mod Fields

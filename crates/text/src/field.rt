@@ -7,7 +7,7 @@ ghost use lib.ListN.{length, take, drop};
 ghost use Rattle.words.specs.Lists.{over};
 ghost use Rattle.text.specs.Text.{ascii};
 ghost use Rattle.text.specs.Decimal.{decimal};
-ghost use Rattle.text.specs.Fitness.{fitness, fitnessText};
+ghost use Rattle.fitness.specs.Fitness.{fitness, fitnessText};
 ghost use Rattle.text.specs.Fields.{wordText, fieldText};
 
 // The first word of a line.
@@ -72,7 +72,7 @@ pub fn field_width(f: Field) -> usize
     match f {
         Field::Nothing => 0,
         Field::Number(n) => crate::decimal::width(n) + 1,
-        Field::Fitness(jumps, transfers) => crate::fitness::width(jumps, transfers) + 1,
+        Field::Fitness(jumps, transfers) => fitness::width(jumps, transfers) + 1,
     }
 }
 
@@ -91,7 +91,7 @@ fn put_fitness(jumps: u32, transfers: u32, out: &mut [u8]) -> usize
     ensures { λ r. ⌜ (r ≡ length (32 ∷ fitnessText (fitness jumps transfers))) × (now (out .exit) ≡ over (32 ∷ fitnessText (fitness jumps transfers)) (now (out .entry))) ⌝ }
 {
     out[0] = 32;
-    1 + crate::fitness::put(jumps, transfers, &mut out[1..])
+    1 + fitness::put(jumps, transfers, &mut out[1..])
 }
 
 // The field at the start of a lent part, and how many bytes it takes.

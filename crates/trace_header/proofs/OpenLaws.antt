@@ -10,13 +10,14 @@ use lib.ListN.{length, take, drop, length-take, length-drop}
 use borrow.Author.Tests.{ltb-true, ltb-false, leb-false, lt-ltb, eq-eqb, ne-eqb}
 use Rattle.words.specs.Lists.{pick, All}
 use Rattle.words.specs.Refusals.{first}
-use Rattle.words.specs.Words.{word, wordsOf}
+use Rattle.words.specs.Words.{word}
 use Rattle.words.proofs.Lists.{All-at, any-none, is-eq}
 use Rattle.words.proofs.Refusals.{first-none, none-apply, first-then, first-stays}
 use Rattle.words.proofs.Words.{length-words}
 use Rattle.net.specs.Net.{Net}
 use Rattle.replay.specs.Plain.{registerTests, registerCode}
 use Rattle.replay.specs.Ready.{KnownKinds}
+use Rattle.replay.specs.Register.{kindsIn}
 use Rattle.trace_header.specs.declared.Contents.{Contents}
 use Rattle.trace_header.specs.declared.Contents.the-variants.{Broken, Bodies}
 use Rattle.trace_header.specs.Claims.{HeadEnough, OpenEnough}
@@ -58,9 +59,9 @@ module _ (f : List ℕ) where
     unfolding traceCode
     open-broken e =
         let c : first (contentsTests f) ≡ 71 = contents-broken e in
-        sym (first-stays (contentsTests f) ((ltb (length f) (16 + word f 4), 71) ∷ registerTests N (registerOf f)) (λ q. omega arith) ∙ c)
+        sym (first-stays (contentsTests f) ((ltb (length f) (16 + word f 4), 71) ∷ registerTests N (registerOf N f)) (λ q. omega arith) ∙ c)
 
-    register-length : 16 + word f 4 ≤ length f → length (registerOf f) ≡ word f 4 / 4
+    register-length : 16 + word f 4 ≤ length f → length (registerOf N f) ≡ word f 4 / 4
     unfolding registerOf
     register-length h =
         length-words (take (word f 4) (drop 16 f))
@@ -68,32 +69,32 @@ module _ (f : List ℕ) where
 
     open-by : (there : ℕ) (ks : List ℕ) → first (contentsTests f) ≡ 0
         → ltb there (word f 4) ≡ ltb (length f) (16 + word f 4)
-        → (word f 4 ≤ there → word f 4 ≤ 4096 → ks ≡ registerOf f)
+        → (word f 4 ≤ there → word f 4 ≤ 4096 → ks ≡ registerOf N f)
         → openCode N (word f 4) there ks ≡ traceCode N f
     unfolding openCode traceCode
     open-by there ks e l k =
-        rw (first-then (contentsTests f) ((ltb (length f) (16 + word f 4), 71) ∷ registerTests N (registerOf f)) e (omega arith), ← l)
+        rw (first-then (contentsTests f) ((ltb (length f) (16 + word f 4), 71) ∷ registerTests N (registerOf N f)) e (omega arith), ← l)
         (go (ltb there (word f 4)) refl (ltb 4096 (word f 4)) refl)
       where
         go : (x : Bool) → ltb there (word f 4) ≡ x → (y : Bool) → ltb 4096 (word f 4) ≡ y
-            → pick x 71 (pick y 11 (first (registerTests N ks))) ≡ pick x 71 (first (registerTests N (registerOf f)))
+            → pick x 71 (pick y 11 (first (registerTests N ks))) ≡ pick x 71 (first (registerTests N (registerOf N f)))
         go true p y q = refl
         go false p true q =
             let n = register-length (ltb-false (length f) (16 + word f 4) (sym l ∙ p)) in
             let m = ltb-true 4096 (word f 4) q in
             let d = whole-head e .1 in
-            rw (ne-eqb (length (registerOf f)) 0 (λ z. omega arith), lt-ltb 1024 (length (registerOf f)) (omega arith))
+            rw (ne-eqb (length (registerOf N f)) 0 (λ z. omega arith), lt-ltb 1024 (length (registerOf N f)) (omega arith))
         go false p false q = ap (λ (xs : List ℕ). first (registerTests N xs)) (k (ltb-false there (word f 4) p) (ltb-false 4096 (word f 4) q))
 
   -- a file that is held whole
   there-same : 16 ≤ length f → ltb (length f - 16) (word f 4) ≡ ltb (length f) (16 + word f 4)
   there-same h = ltb-same (length f - 16) (word f 4) (length f) (16 + word f 4) (λ l. omega arith) (λ l. omega arith)
 
-  pub open-held : (N : Net) (r e : ℕ) → contentsOf f ≡ Bodies r e → openCode N r (length f - 16) (wordsOf (take r (drop 16 f))) ≡ traceCode N f
+  pub open-held : (N : Net) (r e : ℕ) → contentsOf f ≡ Bodies r e → openCode N r (length f - 16) (kindsIn N (take r (drop 16 f))) ≡ traceCode N f
   unfolding registerOf
   open-held N r e p =
       let q = contents-bodies r e p in
-      rw (q .1) (open-by N (length f - 16) (wordsOf (take (word f 4) (drop 16 f))) (q .0) (there-same (head-there (q .0))) (λ h g. refl))
+      rw (q .1) (open-by N (length f - 16) (kindsIn N (take (word f 4) (drop 16 f))) (q .0) (there-same (head-there (q .0))) (λ h g. refl))
 
 -- The laws of opening: what of the file it needs.
 pub open-enough : (N : Net) → OpenEnough N

@@ -1,5 +1,5 @@
 -- What is claimed of opening: how much of the file it needs.
-use Prim.Native.Nat.{ℕ, _+_, _≤_}
+use Prim.Native.Nat.{ℕ, _+_, _*_, _≤_}
 use mathlib.Core.Path.{_≡_}
 use mathlib.Core.List.{List}
 use lib.Dec.{ltb}
@@ -7,6 +7,7 @@ use lib.ListN.{length, take}
 use Rattle.words.specs.Refusals.{first}
 use Rattle.words.specs.Words.{word}
 use Rattle.net.specs.Net.{Net}
+use Rattle.replay.specs.Register.{rowSize}
 use Rattle.trace_header.specs.Opening.{contentsTests, contentsOf, registerOf, traceCode, openCode}
 
 -- the contents: the first 16 bytes say all
@@ -17,5 +18,5 @@ HeadEnough = (h f : List ℕ) → take 16 h ≡ take 16 f → contentsOf h ≡ c
 abbrev pub OpenEnough : Net → Type 0
 OpenEnough N = (f : List ℕ) (there : ℕ) (ks : List ℕ) → first (contentsTests f) ≡ 0
     → ltb there (word f 4) ≡ ltb (length f) (16 + word f 4)
-    → (word f 4 ≤ there → word f 4 ≤ 4096 → ks ≡ registerOf f)
+    → (word f 4 ≤ there → word f 4 ≤ 4096 * rowSize N → ks ≡ registerOf N f)
     → openCode N (word f 4) there ks ≡ traceCode N f

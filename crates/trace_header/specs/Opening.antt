@@ -1,14 +1,15 @@
 -- Opening a trail file (document 01 "Trail file, program, sheet"): contents of two pairs, register and events, then the bodies.
-use Prim.Native.Nat.{ℕ, _+_, _%_}
+use Prim.Native.Nat.{ℕ, _+_, _*_, _%_}
 use mathlib.Core.Bool.{Bool, not}
 use mathlib.Core.List.{List, [], _∷_, _++_}
 use lib.ListN.{length, take, drop}
 use lib.Dec.{ltb, eqb}
 use Rattle.words.specs.Lists.{pick}
 use Rattle.words.specs.Refusals.{first}
-use Rattle.words.specs.Words.{word, wordsOf}
+use Rattle.words.specs.Words.{word}
 use Rattle.net.specs.Net.{Net}
 use Rattle.replay.specs.Plain.{registerTests}
+use Rattle.replay.specs.Register.{rowSize, kindsIn}
 use Rattle.trace_header.specs.declared.Contents.{Contents}
 use Rattle.trace_header.specs.declared.Contents.the-variants.{Broken, Bodies}
 
@@ -35,14 +36,14 @@ abbrev pub shapeTests : List ℕ → List (Bool × ℕ)
 shapeTests f = contentsTests f ++ (ltb (length f) (16 + word f 4), 71) ∷ []
 
 -- the kind of each object
-unfoldable pub registerOf : List ℕ → List ℕ
-registerOf f = wordsOf (take (word f 4) (drop 16 f))
+unfoldable pub registerOf : Net → List ℕ → List ℕ
+registerOf N f = kindsIn N (take (word f 4) (drop 16 f))
 
 -- opening a trail file: 71, then 11 and 12
 unfoldable pub traceCode : Net → List ℕ → ℕ
-traceCode N f = first (shapeTests f ++ registerTests N (registerOf f))
+traceCode N f = first (shapeTests f ++ registerTests N (registerOf N f))
 
 -- the same for contents that are not broken: 71 and 11 by how many bytes the register claims and how many are there,
 -- then 11 and 12 on its kinds
 unfoldable pub openCode : Net → ℕ → ℕ → List ℕ → ℕ
-openCode N claimed there ks = first ((ltb there claimed, 71) ∷ (ltb 4096 claimed, 11) ∷ registerTests N ks)
+openCode N claimed there ks = first ((ltb there claimed, 71) ∷ (ltb (4096 * rowSize N) claimed, 11) ∷ registerTests N ks)

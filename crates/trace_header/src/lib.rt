@@ -9,8 +9,8 @@ ghost use mathlib.Core.Path.{_≡_};
 ghost use Prim.Native.Nat.{_-_, _≤_};
 ghost use lib.ListN.{length, take, drop};
 ghost use Rattle.words.specs.Refusals.{first};
-ghost use Rattle.words.specs.Words.{wordsOf};
 ghost use Rattle.net.specs.Held.{netIn, Held};
+ghost use Rattle.replay.specs.Register.{kindsIn};
 ghost use Rattle.trace_header.specs.Opening.{contentsTests, contentsOf, contentsCode, openCode, traceCode};
 
 // What the first 16 bytes of a trail file say of its bodies: their lengths in bytes. `contentsCode` gives document 01's number.
@@ -49,7 +49,7 @@ pub fn read_contents(head: &[u8]) -> Contents
 // register is counted and not held.
 pub fn opening_refusal(claimed: usize, there: usize, held: &[u8], t: &NetWords) -> u32
     requires { ⌜ Held (now t) ⌝ }
-    ensures { λ r. ⌜ r ≡ openCode (netIn (now (t .entry))) claimed there (wordsOf (now (held .entry))) ⌝ }
+    ensures { λ r. ⌜ r ≡ openCode (netIn (now (t .entry))) claimed there (kindsIn (netIn (now (t .entry))) (now (held .entry))) ⌝ }
 {
     if there < claimed {
         return 71;
@@ -64,7 +64,7 @@ pub fn opening_refusal(claimed: usize, there: usize, held: &[u8], t: &NetWords) 
 fn held_refusal(file: &[u8], claimed: usize, t: &NetWords) -> u32
     requires { ⌜ Held (now t) ⌝ }
     requires { ⌜ 16 ≤ length (now file) ⌝ }
-    ensures { λ r. ⌜ r ≡ openCode (netIn (now (t .entry))) claimed (length (now (file .entry)) - 16) (wordsOf (take claimed (drop 16 (now (file .entry))))) ⌝ }
+    ensures { λ r. ⌜ r ≡ openCode (netIn (now (t .entry))) claimed (length (now (file .entry)) - 16) (kindsIn (netIn (now (t .entry))) (take claimed (drop 16 (now (file .entry))))) ⌝ }
 {
     let rest = file.len() - 16;
     if rest < claimed {

@@ -1,5 +1,6 @@
 -- An event that the reader hands out is one that a replay accepts, and lies inside body and file. Assumes nothing.
 use Prim.Native.Nat.{ℕ, _+_, _*_, _≤_}
+use mathlib.Core.Logic.{_⊎_, inl, inr, ⊎-elim}
 use mathlib.Core.Path.{_≡_, refl, ap, sym, subst, _∙_}
 use mathlib.Core.List.{List}
 use native.Mathlib.Decide.{ℕ-discrete}
@@ -14,6 +15,7 @@ use Rattle.net.specs.Net.{Net, Loaded}
 use Rattle.replay.specs.Plain as plain
 use Rattle.trace_header.specs.Opening.{shapeTests}
 use Rattle.trace_reader.specs.declared.Answer.{Answer}
+use Rattle.trace_reader.specs.declared.Found.{Found}
 use Rattle.trace_reader.specs.declared.Found.the-variants as found
 use Rattle.trace_reader.specs.Answers.{foundCode, nothing, unless}
 use Rattle.trace_reader.specs.Claims.{Handed, HandedOut}
@@ -21,32 +23,43 @@ use Rattle.trace_reader.specs.Trace.{eventAt, endTests, readTests, event
 use Rattle.words.proofs.Words.{length-at}
 use Rattle.trace_reader.proofs.ObjectLaws.{bytes-objects, first-of-eight}
 
-unless-event : (c : ℕ) (a : Answer) (at : ℕ) → unless c a at .found ≡ found.Event → (c ≡ 0) × (unless c a at ≡ a)
-unless-event c a at p = go (ℕ-discrete c 0)
+-- an answer that is not refused is the other
+by-number : (c : ℕ) (a : Answer) (at : ℕ) → ((c ≡ 0) × (unless c a at ≡ a)) ⊎ ((unless c a at .found ≡ found.Refused c) × (c ≡ 0 → ⊥))
+by-number c a at = go (ℕ-discrete c 0)
   where
-    go : Dec (c ≡ 0) → (c ≡ 0) × (unless c a at ≡ a)
-    go (yes e) = (e, rw (eq-eqb c 0 e))
-    go (no m) = let q : found.Refused c ≡ found.Event = rw (ne-eqb c 0 m) at p in let x : _≡_ {A = ℕ} 0 1 = cc in absurd (omega arith)
+    go : Dec (c ≡ 0) → ((c ≡ 0) × (unless c a at ≡ a)) ⊎ ((unless c a at .found ≡ found.Refused c) × (c ≡ 0 → ⊥))
+    go (yes e) = inl (e, rw (eq-eqb c 0 e))
+    go (no m) = inr (rw (ne-eqb c 0 m), m)
+
+unless-event : (c : ℕ) (a : Answer) (at : ℕ) → unless c a at .found ≡ found.Event → (c ≡ 0) × (unless c a at ≡ a)
+unless-event c a at p =
+    ⊎-elim (λ s. s) (λ s. let q : found.Refused c ≡ found.Event = sym (s .0) ∙ p in let x : _≡_ {A = ℕ} 0 1 = cc in absurd (omega arith)) (by-number c a at)
+
+module _ (N : Net) (ks : List ℕ) (accepted : ℕ) (b : List ℕ) (from body at : ℕ) where
+  abbrev here : Answer
+  here = readFrom N ks accepted b from body at
+
+  -- what an answer tells by what it found: where it is an event no test applies
+  abbrev Tells : Found → Type 0
+  Tells found.Event = (first (readTests N ks accepted b from body at) ≡ 0) × (here ≡ eventFound b from at)
+  Tells found.End = at ≡ body
+  Tells (found.Refused c) = c ≡ 0 → ⊥
+
+  pub tells : (d : Found) → here .found ≡ d → Tells d
+  unfolding readFrom
+  tells d p = go (ℕ-discrete at body)
+    where
+      by : (c : ℕ) (a : Answer) → here ≡ unless c a at → (c ≡ 0 → here ≡ a → Tells (a .found)) → Tells d
+      by c a e t =
+          ⊎-elim (λ s. subst Tells (sym (ap (λ (x : Answer). x .found) (e ∙ s .1)) ∙ p) (t (s .0) (e ∙ s .1)))
+          (λ s. subst Tells (sym (ap (λ (x : Answer). x .found) e ∙ s .0) ∙ p) (s .1)) (by-number c a at)
+
+      go : Dec (at ≡ body) → Tells d
+      go (yes e) = by (first (endTests b from)) (nothing found.End at) (rw (eq-eqb at body e)) (λ z q. e)
+      go (no m) = by (first (readTests N ks accepted b from body at)) (eventFound b from at) (rw (ne-eqb at body m)) (λ z q. (z, q))
 
 module _ (N : Net) (L : Loaded N) (ks : List ℕ) (accepted : ℕ) where
   module _ (b : List ℕ) (from body at : ℕ) where
-    -- where an event is found no test applies
-    event-only : readFrom N ks accepted b from body at .found ≡ found.Event
-        → (first (readTests N ks accepted b from body at) ≡ 0) × (readFrom N ks accepted b from body at ≡ eventFound b from at)
-    unfolding readFrom
-    event-only p = go (ℕ-discrete at body)
-      where
-        go : Dec (at ≡ body) → (first (readTests N ks accepted b from body at) ≡ 0) × (readFrom N ks accepted b from body at ≡ eventFound b from at)
-        go (yes e) =
-            let q : unless (first (endTests b from)) (nothing found.End at) at .found ≡ found.Event = rw (eq-eqb at body e) at p in
-            let s : found.End ≡ found.Event = sym (ap (λ (a : Answer). a .found) (unless-event (first (endTests b from)) (nothing found.End at) at q .1)) ∙ q in
-            let x : _≡_ {A = ℕ} 0 1 = cc in
-            absurd (omega arith)
-        go (no m) =
-            let q : unless (first (readTests N ks accepted b from body at)) (eventFound b from at) at .found ≡ found.Event = rw (ne-eqb at body m) at p in
-            let s = unless-event (first (readTests N ks accepted b from body at)) (eventFound b from at) at q in
-            (s .0, rw (ne-eqb at body m) (s .1))
-
     handed-found : first (readTests N ks accepted b from body at) ≡ 0 → Handed N ks accepted (length b) from body at (eventFound b from at)
     handed-found e =
         let t = none-apply (readTests N ks accepted b from body at) (omega arith) e .1 .1 .1 in
@@ -70,7 +83,7 @@ module _ (N : Net) (L : Loaded N) (ks : List ℕ) (accepted : ℕ) where
 
     -- The law of the event handed out, by reading in bytes and in a file.
     pub handed : readFrom N ks accepted b from body at .found ≡ found.Event → Handed N ks accepted (length b) from body at (readFrom N ks accepted b from body at)
-    handed p = let s = event-only p in subst (Handed N ks accepted (length b) from body at) (sym (s .1)) (handed-found (s .0))
+    handed p = let s = tells N ks accepted b from body at found.Event p in subst (Handed N ks accepted (length b) from body at) (sym (s .1)) (handed-found (s .0))
 
     -- the bytes behind the first two numbers hold its objects
     abbrev Held-in : Answer → Type 0
@@ -78,7 +91,7 @@ module _ (N : Net) (L : Loaded N) (ks : List ℕ) (accepted : ℕ) where
 
     pub handed-bytes : readFrom N ks accepted b from body at .found ≡ found.Event → Held-in (readFrom N ks accepted b from body at)
     handed-bytes p =
-        let s = event-only p in
+        let s = tells N ks accepted b from body at found.Event p in
         let h = handed-found (s .0) in
         let n = word b (from + 4) in
         subst Held-in (sym (s .1)) (bytes-objects b n (from + 8) (h .there) ∙ sym (first-of-eight (wordsAt b (from + 8) n) n (length-at b (from + 8) n) (h .few)))

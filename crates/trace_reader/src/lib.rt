@@ -1,5 +1,5 @@
 // The cursor: it reads the events of a trail file one by one.
-// Above `trace_header`, which says where the events stand, `replay` and `net`; `program_events` uses it.
+// Above `trace_header`, which says where the events stand, `replay` and `net`; `program_step` uses it.
 
 use crate::objects::read_objects;
 use net::NetWords;
@@ -14,9 +14,9 @@ ghost use mathlib.Core.Path.{_≡_};
 ghost use Prim.Native.Nat.{_+_, _*_, _≤_};
 ghost use lib.ListN.{length, take, drop};
 ghost use Rattle.words.specs.Refusals.{first};
-ghost use Rattle.words.specs.Words.{wordsOf};
 ghost use Rattle.net.specs.Held.{netIn, Held};
 ghost use Rattle.replay.specs.Ready.{KnownKinds};
+ghost use Rattle.replay.specs.Register.{kindsIn};
 ghost use Rattle.trace_reader.specs.Answers as answers;
 ghost use Rattle.trace_reader.specs.Parts.{Ready, countTests, frontTests, objectsFound, bodyRead};
 ghost use Rattle.trace_reader.specs.Trace.{endFound, readCode, readFrom, readAtCode, readAt};
@@ -122,9 +122,9 @@ fn refuse_front(window: &[u8], body: usize, at: usize, accepted: u32, t: &NetWor
 // The event at the front of the window, or 25, 26 or 27.
 fn read_event(window: &[u8], at: usize, register: &[u8], t: &NetWords) -> Answer
     requires { ⌜ Held (now t) ⌝ }
-    requires { ⌜ KnownKinds (netIn (now t)) (wordsOf (now register)) ⌝ }
+    requires { ⌜ KnownKinds (netIn (now t)) (kindsIn (netIn (now t)) (now register)) ⌝ }
     requires { ⌜ Ready (netIn (now t)) (now window) at ⌝ }
-    ensures { λ r. ⌜ r ≡ objectsFound (netIn (now (t .entry))) (wordsOf (now (register .entry))) (now (window .entry)) at ⌝ }
+    ensures { λ r. ⌜ r ≡ objectsFound (netIn (now (t .entry))) (kindsIn (netIn (now (t .entry))) (now (register .entry))) (now (window .entry)) at ⌝ }
 {
     let activity = word_at(window, 0);
     let count = word_at(window, 4);
@@ -172,9 +172,9 @@ impl Cursor {
         t: &NetWords,
     ) -> Answer
         requires { ⌜ Held (now t) ⌝ }
-        requires { ⌜ KnownKinds (netIn (now t)) (wordsOf (now register)) ⌝ }
-        ensures answer { λ r. ⌜ r ≡ readFrom (netIn (now (t .entry))) (wordsOf (now (register .entry))) accepted (now (window .entry)) 0 body (self .at) ⌝ }
-        ensures code { λ r. ⌜ answers.foundCode (r .found) ≡ readCode (netIn (now (t .entry))) (wordsOf (now (register .entry))) accepted (now (window .entry)) 0 body (self .at) ⌝ }
+        requires { ⌜ KnownKinds (netIn (now t)) (kindsIn (netIn (now t)) (now register)) ⌝ }
+        ensures answer { λ r. ⌜ r ≡ readFrom (netIn (now (t .entry))) (kindsIn (netIn (now (t .entry))) (now (register .entry))) accepted (now (window .entry)) 0 body (self .at) ⌝ }
+        ensures code { λ r. ⌜ answers.foundCode (r .found) ≡ readCode (netIn (now (t .entry))) (kindsIn (netIn (now (t .entry))) (now (register .entry))) accepted (now (window .entry)) 0 body (self .at) ⌝ }
     {
         let at = self.at;
         if at == body {
@@ -198,9 +198,9 @@ impl Cursor {
         t: &NetWords,
     ) -> Answer
         requires { ⌜ Held (now t) ⌝ }
-        requires { ⌜ KnownKinds (netIn (now t)) (wordsOf (now register)) ⌝ }
+        requires { ⌜ KnownKinds (netIn (now t)) (kindsIn (netIn (now t)) (now register)) ⌝ }
         requires { ⌜ (16 ≤ length (now file)) × (claimed + body ≤ 8589934592) ⌝ }
-        ensures { λ r. ⌜ r ≡ bodyRead (netIn (now (t .entry))) (wordsOf (now (register .entry))) accepted (now (file .entry)) claimed body (self .at) ⌝ }
+        ensures { λ r. ⌜ r ≡ bodyRead (netIn (now (t .entry))) (kindsIn (netIn (now (t .entry))) (now (register .entry))) accepted (now (file .entry)) claimed body (self .at) ⌝ }
     {
         let at = self.at;
         if file.len() - 16 < claimed {
@@ -221,9 +221,9 @@ impl Cursor {
     // Reads in a file that is held whole.
     pub fn read(self, file: &[u8], accepted: u32, register: &[u8], t: &NetWords) -> Answer
         requires { ⌜ Held (now t) ⌝ }
-        requires { ⌜ KnownKinds (netIn (now t)) (wordsOf (now register)) ⌝ }
-        ensures answer { λ r. ⌜ r ≡ readAt (netIn (now (t .entry))) (wordsOf (now (register .entry))) accepted (now (file .entry)) (self .at) ⌝ }
-        ensures code { λ r. ⌜ answers.foundCode (r .found) ≡ readAtCode (netIn (now (t .entry))) (wordsOf (now (register .entry))) accepted (now (file .entry)) (self .at) ⌝ }
+        requires { ⌜ KnownKinds (netIn (now t)) (kindsIn (netIn (now t)) (now register)) ⌝ }
+        ensures answer { λ r. ⌜ r ≡ readAt (netIn (now (t .entry))) (kindsIn (netIn (now (t .entry))) (now (register .entry))) accepted (now (file .entry)) (self .at) ⌝ }
+        ensures code { λ r. ⌜ answers.foundCode (r .found) ≡ readAtCode (netIn (now (t .entry))) (kindsIn (netIn (now (t .entry))) (now (register .entry))) accepted (now (file .entry)) (self .at) ⌝ }
     {
         match read_contents(file) {
             Contents::Broken => nothing(Found::Refused(71), self.at),

@@ -3,7 +3,8 @@ use Prim.Native.Nat.{_≤_}
 use mathlib.Core.Path.{_≡_, sym, _∙_}
 use native.Mathlib.Omega.{arith}
 use lib.ListN.{length, take, drop, length-take}
-use Rattle.words.specs.Words.{wordsOf}
+use Rattle.net.specs.Table.{netOf}
+use Rattle.replay.specs.Register.{kindsIn}
 use Rattle.replay.specs.Calls.{startRecord}
 use Rattle.replay_start.proofs.StartLaws.{table-few, objects-few, record-size}
 use Rattle.replay_start.proofs.Begun.{start-fits}
@@ -22,13 +23,13 @@ record-bytes-requires c κs =
     (s .pre .0 .tabled .held, (table-few (s .args .t .now) (s .args .table .now) (s .args .register .now) (s .pre .0) (s .pre .1 .0), objects-few (s .args .t .now) (s .args .table .now) (s .args .register .now) (s .pre .0) (s .pre .1 .0)))
 
 -- how many bytes the record takes
-size-is : (c : tie.After-record-bytes) → c .record-bytes .result ≡ length (startRecord (c .before .before .before .before .before .before .before .before .before .args .table .now) (wordsOf (c .before .before .before .before .before .before .before .before .before .args .register .now)))
+size-is : (c : tie.After-record-bytes) → c .record-bytes .result ≡ length (startRecord (c .before .before .before .before .before .before .before .before .before .args .table .now) (kindsIn (netOf (c .before .before .before .before .before .before .before .before .before .args .table .now)) (c .before .before .before .before .before .before .before .before .before .args .register .now)))
 size-is c = let s = c .before .before .before .before .before .before .before .before .before in c .record-bytes .ensures ∙ sym (record-size (s .args .t .now) (s .args .table .now) (s .args .register .now) (s .pre .0) (s .pre .1 .0))
 
 fits : (c : tie.After-record-bytes) → c .record-bytes .result ≤ length (c .before .before .before .start .last .1 .1 .1 .0)
 fits c = let s = c .before .before .before .before .before .before .before .before .before in omega (arith, size-is c, start-fits (s .args .t .now) (s .args .table .now) (s .args .register .now) (s .pre .0) (s .pre .1 .0))
 
-front : (c : tie.After-record-bytes) → take (c .record-bytes .result) (c .before .before .before .start .last .1 .1 .1 .0) ≡ startRecord (c .before .before .before .before .before .before .before .before .before .args .table .now) (wordsOf (c .before .before .before .before .before .before .before .before .before .args .register .now))
+front : (c : tie.After-record-bytes) → take (c .record-bytes .result) (c .before .before .before .start .last .1 .1 .1 .0) ≡ startRecord (c .before .before .before .before .before .before .before .before .before .args .table .now) (kindsIn (netOf (c .before .before .before .before .before .before .before .before .before .args .table .now)) (c .before .before .before .before .before .before .before .before .before .args .register .now))
 front c = let s = c .before .before .before .before .before .before .before .before .before in let r = c .before .before .before .start in started (s .args .t .now) (s .args .table .now) (s .args .register .now) (s .pre .0) (s .pre .1 .0) (s .args .rec .now) (r .last .1 .1 .1 .0) (c .record-bytes .result) (s .pre .1 .1 .0) (r .ensures .1) (size-is c)
 
 slice-relend-prefix-follow : tie.Need-slice-relend-prefix-follow

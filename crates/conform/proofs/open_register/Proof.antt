@@ -1,9 +1,9 @@
 -- A register that is not refused is wholly there and starts a trail. Assumes nothing.
 use mathlib.Core.Path.{_≡_, refl, ap, sym, _∙_}
 use lib.ListN.{length}
-use Rattle.words.specs.Words.{wordsOf}
 use Rattle.net.specs.Net.{Net}
 use Rattle.net.specs.Table.{netOf}
+use Rattle.replay.specs.Register.{kindsIn}
 use Rattle.trace_header.specs.Opening.{openCode}
 use Rattle.conform.proofs.Opening.{register-startable}
 use Rattle.conform.proofs.Texts.{register-refused, register-taken}
@@ -15,8 +15,8 @@ opening-refusal-requires : tie.Need-opening-refusal-requires
 opening-refusal-requires c κs = search needs
 
 -- the number is that of the table's net
-code-is : (c : tie.After-opening-refusal) → c .opening-refusal .result ≡ openCode (netOf (c .before .before .before .before .args .table .now)) (c .before .before .before .before .args .claimed) (length (c .before .before .before .before .args .register .now)) (wordsOf (c .before .before .before .before .args .register .now))
-code-is c = let s = c .before .before .before .before in c .opening-refusal .ensures ∙ ap (λ (N : Net). openCode N (s .args .claimed) (length (s .args .register .now)) (wordsOf (s .args .register .now))) (s .pre .0 .net)
+code-is : (c : tie.After-opening-refusal) → c .opening-refusal .result ≡ openCode (netOf (c .before .before .before .before .args .table .now)) (c .before .before .before .before .args .claimed) (length (c .before .before .before .before .args .register .now)) (kindsIn (netOf (c .before .before .before .before .args .table .now)) (c .before .before .before .before .args .register .now))
+code-is c = let s = c .before .before .before .before in c .opening-refusal .ensures ∙ ap (λ (N : Net). openCode N (s .args .claimed) (length (s .args .register .now)) (kindsIn N (s .args .register .now))) (s .pre .0 .net)
 
 returns : tie.Need-returns
 returns c =

@@ -6,21 +6,21 @@ use mathlib.Core.Path.{_≡_, refl}
 use mathlib.Core.List.{List}
 use native.Mathlib.Omega.{arith}
 use lib.ListN.{length, take, drop}
-use Rattle.words.specs.Words.{wordsOf}
 use Rattle.net.specs.Net.{Net}
 use Rattle.net.specs.Held.{netIn}
-use Rattle.program_events.specs.declared.Spot.{Spot}
-use Rattle.program_events.specs.declared.Outcome.{Outcome}
-use Rattle.program_events.specs.Follows.{Follows}
-use Rattle.program_events.specs.Followed.{leftBy}
+use Rattle.replay.specs.Register.{kindsIn}
+use Rattle.program_step.specs.declared.Spot.{Spot}
+use Rattle.program_step.specs.declared.Outcome.{Outcome}
+use Rattle.program_step.specs.Follows.{Follows}
+use Rattle.program_events.specs.Ends.{leftBy}
 use Rattle.program_events.specs.Window.{OfSomeFile}
-use Rattle.program_events.proofs.Following.{events-few}
+use Rattle.program_step.proofs.Following.{events-few}
 use Rattle.program_events.proofs.File.{Read, read-start, read-over, read-on}
 use Rattle.program_events.proofs.all_events.Statement.{statement}
 use Rattle.program_events.proofs.all_events.Tie as tie
 
 record Inside (rec₀ t register : List ℕ) (body : ℕ) (buf₀ : List ℕ) (n : ℕ) (rec buf : List ℕ) (there : ℕ) (start : Spot) : Type 0 where
-  read : Read (netIn t) (wordsOf register) body rec₀ (take n buf₀) (length buf₀) rec buf there start
+  read : Read (netIn t) (kindsIn (netIn t) register) body rec₀ (take n buf₀) (length buf₀) rec buf there start
   follows : Follows t rec register (start .accepted)
   here : start .from ≡ 0
   within : there ≤ length buf
@@ -37,7 +37,7 @@ loop-holds : tie.Need-loop-holds Inv-loop μ-loop
 loop-holds c =
     let s = c .before .before .before in
     record {
-      read = read-start (netIn (s .args .t .now)) (wordsOf (s .args .register .now)) (s .args .body) (s .args .rec .now) (take (s .args .n) (s .args .buf .now)) (length (s .args .buf .now)) (s .args .buf .now) (s .args .n) (s .pre .1 .1) refl refl;
+      read = read-start (netIn (s .args .t .now)) (kindsIn (netIn (s .args .t .now)) (s .args .register .now)) (s .args .body) (s .args .rec .now) (take (s .args .n) (s .args .buf .now)) (length (s .args .buf .now)) (s .args .buf .now) (s .args .n) (s .pre .1 .1) refl refl;
       follows = s .pre .0;
       here = refl;
       within = s .pre .1 .1;
@@ -55,14 +55,14 @@ record Made (N : Net) (ks : List ℕ) (body : ℕ) (rec₀ front : List ℕ) (ro
       → Read N ks body rec₀ front room left new m (record { from = 0; at = r .spot .at; accepted = r .spot .accepted })
 
 made : (c : tie.After-turn Inv-loop μ-loop)
-    → let s = c .before .before .before .before .before .before .before in Made (netIn (s .args .t .now)) (wordsOf (s .args .register .now)) (s .args .body) (s .args .rec .now) (take (s .args .n) (s .args .buf .now)) (length (s .args .buf .now)) (c .before .before .before .loop .buf) (c .turn .last .0) (c .turn .result)
+    → let s = c .before .before .before .before .before .before .before in Made (netIn (s .args .t .now)) (kindsIn (netIn (s .args .t .now)) (s .args .register .now)) (s .args .body) (s .args .rec .now) (take (s .args .n) (s .args .buf .now)) (length (s .args .buf .now)) (c .before .before .before .loop .buf) (c .turn .last .0) (c .turn .result)
 made c =
     let s = c .before .before .before .before .before .before .before in
     let l = c .before .before .before .loop in
     let e = c .turn .ensures in
     record {
-      over = read-over (netIn (s .args .t .now)) (wordsOf (s .args .register .now)) (s .args .body) (s .args .rec .now) (take (s .args .n) (s .args .buf .now)) (length (s .args .buf .now)) (l .rec) (l .buf) (l .there) (l .start) (l .inv .read) (l .inv .here) (l .inv .within) (c .turn .last .0) (c .turn .result) (e .0);
-      on = λ o new m most old. read-on (netIn (s .args .t .now)) (wordsOf (s .args .register .now)) (s .args .body) (s .args .rec .now) (take (s .args .n) (s .args .buf .now)) (length (s .args .buf .now)) (l .rec) (l .buf) (l .there) (l .start) (l .inv .read) (l .inv .here) (l .inv .within) (c .turn .last .0) (c .turn .result) (e .0)
+      over = read-over (netIn (s .args .t .now)) (kindsIn (netIn (s .args .t .now)) (s .args .register .now)) (s .args .body) (s .args .rec .now) (take (s .args .n) (s .args .buf .now)) (length (s .args .buf .now)) (l .rec) (l .buf) (l .there) (l .start) (l .inv .read) (l .inv .here) (l .inv .within) (c .turn .last .0) (c .turn .result) (e .0);
+      on = λ o new m most old. read-on (netIn (s .args .t .now)) (kindsIn (netIn (s .args .t .now)) (s .args .register .now)) (s .args .body) (s .args .rec .now) (take (s .args .n) (s .args .buf .now)) (length (s .args .buf .now)) (l .rec) (l .buf) (l .there) (l .start) (l .inv .read) (l .inv .here) (l .inv .within) (c .turn .last .0) (c .turn .result) (e .0)
           o (e .1 .1 .1 .full o) (e .1 .1 .0) new m most old;
     }
 

@@ -2,10 +2,10 @@
 use mathlib.Core.Path.{sym, subst}
 use native.Mathlib.Omega.{arith}
 use lib.ListN.{length, take}
-use Rattle.words.specs.Words.{wordsOf}
 use Rattle.net.specs.Held.{netIn}
 use Rattle.replay.specs.Plain.{close}
 use Rattle.replay.specs.Ready.{Ready}
+use Rattle.replay.specs.Register.{kindsIn}
 use Rattle.replay.proofs.Calls.{ready-asked}
 use Rattle.program_events.proofs.File.{end-refused, end-closed}
 use borrow.Author.Needs.{needs}
@@ -25,7 +25,7 @@ returns : tie.Need-returns
 returns c =
     let s = c .before .before .before .before .before .before .before .before .before .before .before .before in
     let r = c .before .before .before .before .before .before .all-events in (
-      end-refused (netIn (s .args .t .now)) (wordsOf (s .args .register .now)) (s .args .body) (s .args .rec .now) (take (s .args .n) (s .args .buf .now)) (length (s .args .buf .now)) (r .last .0) (r .result) (r .ensures .0) (c .before .if1 .taken),
+      end-refused (netIn (s .args .t .now)) (kindsIn (netIn (s .args .t .now)) (s .args .register .now)) (s .args .body) (s .args .rec .now) (take (s .args .n) (s .args .buf .now)) (length (s .args .buf .now)) (r .last .0) (r .result) (r .ensures .0) (c .before .if1 .taken),
       r .ensures .1 .ready,
     )
 
@@ -43,7 +43,7 @@ returns-2 c =
     let s = c .before .before .before .before .before .before .before .before .before .before .before .before .before .before .before in
     let r = c .before .before .before .before .before .before .before .before .before .all-events in
     let d = c .before .before .close in (
-      end-closed (netIn (s .args .t .now)) (wordsOf (s .args .register .now)) (s .args .body) (s .args .rec .now) (take (s .args .n) (s .args .buf .now)) (length (s .args .buf .now)) (r .last .0) (r .result) (r .ensures .0) (c .before .before .before .before .if1 .left) (d .last .0) (d .ensures .1) _ (omega arith),
+      end-closed (netIn (s .args .t .now)) (kindsIn (netIn (s .args .t .now)) (s .args .register .now)) (s .args .body) (s .args .rec .now) (take (s .args .n) (s .args .buf .now)) (length (s .args .buf .now)) (r .last .0) (r .result) (r .ensures .0) (c .before .before .before .before .if1 .left) (d .last .0) (d .ensures .1) _ (omega arith),
       subst (Ready (s .args .t .now)) (sym (d .ensures .1)) (ready-asked (s .args .t .now) (r .last .0) (r .ensures .1 .ready) close),
     )
 

@@ -6,21 +6,21 @@ use mathlib.Core.List.{List}
 use native.Mathlib.Decide.{decLe}
 use native.Mathlib.Omega.{arith}
 use lib.ListN.{length}
-use Rattle.words.specs.Words.{wordsOf}
 use Rattle.words.proofs.Lists.{clash}
 use Rattle.net.specs.Held.{netIn}
+use Rattle.replay.specs.Register.{kindsIn}
 use Rattle.replay_objects.proofs.RecordLaws.{ready-loaded}
-use Rattle.program_events.specs.declared.Spot.{Spot}
-use Rattle.program_events.specs.declared.Outcome.{Outcome}
-use Rattle.program_events.specs.Follows.{Follows}
+use Rattle.program_step.specs.declared.Spot.{Spot}
+use Rattle.program_step.specs.declared.Outcome.{Outcome}
+use Rattle.program_step.specs.Follows.{Follows}
 use Rattle.program_events.specs.Window.{Window, Kept}
-use Rattle.program_events.proofs.Following.{Stepped, stepped, events-few}
+use Rattle.program_step.proofs.Following.{Stepped, stepped, events-few}
 use Rattle.program_events.proofs.Kept.{going, kept-start, kept-going, kept-step}
 use Rattle.program_events.proofs.steps.Statement.{statement}
 use Rattle.program_events.proofs.steps.Tie as tie
 
 record Inside (rec₀ t register : List ℕ) (body : ℕ) (window : List ℕ) (least : ℕ) (start : Spot) (rec : List ℕ) (spot : Spot) : Type 0 where
-  kept : Kept (netIn t) (wordsOf register) body (Window window least) rec₀ start rec (going spot)
+  kept : Kept (netIn t) (kindsIn (netIn t) register) body (Window window least) rec₀ start rec (going spot)
   follows : Follows t rec register (spot .accepted)
   inside : spot .from ≤ length window
   same-length : length rec ≡ length rec₀
@@ -37,7 +37,7 @@ loop-holds : tie.Need-loop-holds Inv-loop μ-loop
 loop-holds c =
     let s = c .before .before .before in
     record {
-      kept = kept-start (netIn (s .args .t .now)) (wordsOf (s .args .register .now)) (s .args .body) (Window (s .args .window .now) (s .args .least)) (s .args .rec .now) (s .args .start);
+      kept = kept-start (netIn (s .args .t .now)) (kindsIn (netIn (s .args .t .now)) (s .args .register .now)) (s .args .body) (Window (s .args .window .now) (s .args .least)) (s .args .rec .now) (s .args .start);
       follows = s .pre .0;
       inside = s .pre .1;
       same-length = refl;
@@ -54,7 +54,7 @@ step-requires c κs = (c .before .before .before .loop .inv .follows, c .before 
 -- the step that was made, and what is kept over it
 record Made (t register : List ℕ) (body : ℕ) (window : List ℕ) (least : ℕ) (rec₀ : List ℕ) (start spot : Spot) (left : List ℕ) (r : Outcome) : Type 0 where
   step : Stepped t register (length window) spot left r
-  kept : Kept (netIn t) (wordsOf register) body (Window window least) rec₀ start left r
+  kept : Kept (netIn t) (kindsIn (netIn t) register) body (Window window least) rec₀ start left r
   few : spot .accepted ≤ 1000000
 
 made : (c : tie.After-step Inv-loop μ-loop)
@@ -65,7 +65,7 @@ made c =
     let few = events-few (s .args .t .now) (l .rec) (s .args .register .now) (l .spot .accepted) (l .inv .follows) in
     record {
       step = stepped (s .args .t .now) (l .rec) (s .args .register .now) (s .args .body) (s .args .window .now) (l .spot) (l .inv .follows) (l .inv .inside) (c .step .last .0) (c .step .result) (c .step .ensures .0) (c .step .ensures .1);
-      kept = kept-step (netIn (s .args .t .now)) (wordsOf (s .args .register .now)) (s .args .body) (ready-loaded (s .args .t .now) (l .rec) (l .inv .follows .ready)) (s .args .window .now) (s .args .least) (s .args .rec .now) (s .args .start) (l .rec) (l .spot) (c .step .last .0) (c .step .result)
+      kept = kept-step (netIn (s .args .t .now)) (kindsIn (netIn (s .args .t .now)) (s .args .register .now)) (s .args .body) (ready-loaded (s .args .t .now) (l .rec) (l .inv .follows .ready)) (s .args .window .now) (s .args .least) (s .args .rec .now) (s .args .start) (l .rec) (l .spot) (c .step .last .0) (c .step .result)
           (l .inv .kept) (c .before .before .if1 .taken) (l .inv .inside) few (c .step .ensures .0) (c .step .ensures .1);
       few = few;
     }
@@ -89,7 +89,7 @@ loop-again c =
     let m = made (c .before .before .before .before) in
     let n : r .result .spot .accepted ≡ l .spot .accepted + 1 = m .step .more (c .before .if2 .left) in
     record {
-      kept = kept-going (netIn (s .args .t .now)) (wordsOf (s .args .register .now)) (s .args .body) (Window (s .args .window .now) (s .args .least)) (s .args .rec .now) (s .args .start) (r .last .0) (r .result) (m .kept) (c .before .if2 .left);
+      kept = kept-going (netIn (s .args .t .now)) (kindsIn (netIn (s .args .t .now)) (s .args .register .now)) (s .args .body) (Window (s .args .window .now) (s .args .least)) (s .args .rec .now) (s .args .start) (r .last .0) (r .result) (m .kept) (c .before .if2 .left);
       follows = m .step .follows;
       inside = m .step .inside;
       same-length = omega arith;

@@ -3,8 +3,8 @@ use mathlib.Core.Path.{refl, sym}
 use native.Mathlib.Omega.{arith}
 use lib.ListN.{take, length-take}
 use lib.Seq.{take-all}
-use Rattle.words.specs.Words.{wordsOf}
 use Rattle.net.specs.Held.{netIn}
+use Rattle.replay.specs.Register.{kindsIn}
 use Rattle.program_events.proofs.Kept.{kept-filled}
 use borrow.Author.Needs.{needs}
 use Rattle.program_events.proofs.turn.Statement.{statement}
@@ -23,7 +23,7 @@ returns : tie.Need-returns
 returns c =
     let s = c .before .before .before .before .before .before .before .before .before in
     let r = c .before .before .steps in (
-      kept-filled (netIn (s .args .t .now)) (wordsOf (s .args .register .now)) (s .args .body) (s .args .buf .now) (s .args .n) (take (s .args .n) (s .args .buf .now)) _ (s .args .rec .now) (s .args .start) (r .last .0) (r .result)
+      kept-filled (netIn (s .args .t .now)) (kindsIn (netIn (s .args .t .now)) (s .args .register .now)) (s .args .body) (s .args .buf .now) (s .args .n) (take (s .args .n) (s .args .buf .now)) _ (s .args .rec .now) (s .args .start) (r .last .0) (r .result)
           (omega arith) refl (λ l. absurd (omega arith)) (r .ensures .0),
       (
         r .ensures .1 .0,
@@ -44,7 +44,7 @@ returns-2 : tie.Need-returns-2
 returns-2 c =
     let s = c .before .before .before .before .before .before .before .before in
     let r = c .before .before .steps2 in (
-      kept-filled (netIn (s .args .t .now)) (wordsOf (s .args .register .now)) (s .args .body) (s .args .buf .now) (s .args .n) (s .args .buf .now) _ (s .args .rec .now) (s .args .start) (r .last .0) (r .result)
+      kept-filled (netIn (s .args .t .now)) (kindsIn (netIn (s .args .t .now)) (s .args .register .now)) (s .args .body) (s .args .buf .now) (s .args .n) (s .args .buf .now) _ (s .args .rec .now) (s .args .start) (r .last .0) (r .result)
           (omega arith) (sym (take-all (s .args .n) (s .args .buf .now) (omega arith))) (λ l. omega arith) (r .ensures .0),
       (r .ensures .1 .0, (omega arith, record { full = λ o. omega arith; more = λ o h. r .ensures .1 .1 .1 .more o (omega arith) })),
     )

@@ -4,8 +4,8 @@ use mathlib.Core.Path.{_≡_, refl, ap, _∙_}
 use native.Mathlib.Omega.{arith}
 use lib.ListN.{length, take, drop}
 use borrow.Author.Tests.{lt-ltb}
-use Rattle.words.specs.Words.{wordsOf}
 use Rattle.net.specs.Held.{netIn}
+use Rattle.replay.specs.Register.{kindsIn}
 use Rattle.trace_header.specs.Opening.{openCode}
 use borrow.Author.Needs.{needs}
 use Rattle.trace_header.proofs.held_refusal.Statement.{statement}
@@ -36,8 +36,8 @@ opening-refusal-requires c κs = search needs
 returns-2 : tie.Need-returns-2
 returns-2 c = let a = c .before .before .before .before .args in
     let e : 16 + a .claimed - 16 ≡ a .claimed = omega arith in
-    let r : c .opening-refusal .result ≡ openCode (netIn (a .t .now)) (a .claimed) (length (a .file .now) - 16) (wordsOf (take (16 + a .claimed - 16) (drop 16 (a .file .now)))) = c .opening-refusal .ensures in
-    r ∙ ap (λ (k : ℕ). openCode (netIn (a .t .now)) (a .claimed) (length (a .file .now) - 16) (wordsOf (take k (drop 16 (a .file .now))))) e
+    let r : c .opening-refusal .result ≡ openCode (netIn (a .t .now)) (a .claimed) (length (a .file .now) - 16) (kindsIn (netIn (a .t .now)) (take (16 + a .claimed - 16) (drop 16 (a .file .now)))) = c .opening-refusal .ensures in
+    r ∙ ap (λ (k : ℕ). openCode (netIn (a .t .now)) (a .claimed) (length (a .file .now) - 16) (kindsIn (netIn (a .t .now)) (take k (drop 16 (a .file .now))))) e
 
 pub held-refusal-spec : {M : Type 1} → statement M
 held-refusal-spec =

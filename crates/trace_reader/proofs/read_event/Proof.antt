@@ -9,6 +9,7 @@ use Rattle.words.specs.Refusals.{first}
 use Rattle.words.specs.Words.{word, wordsOf, wordsAt}
 use Rattle.net.specs.Held.{netIn}
 use Rattle.replay.specs.Plain.{objectTests}
+use Rattle.replay.specs.Register.{kindsIn}
 use Rattle.trace_reader.specs.Parts.{objectsFound}
 use Rattle.trace_reader.specs.Trace.{eventFound}
 use Rattle.words.proofs.Words.{length-at}
@@ -38,13 +39,13 @@ stored c =
     c .read-objects .ensures ∙ ap (λ (n : ℕ). sets (replicate 8 0) 0 (wordsAt (bytes k) 8 n)) (count k)
 
 code : (c : tie.After-refuse-objects) → let w = bytes (c .before .before .before) in let a = c .before .before .before .before .before .before .before .before .args in
-    c .refuse-objects .result ≡ first (objectTests (netIn (a .t .now)) (wordsOf (a .register .now)) (word w 0) (wordsAt w 8 (word w 4)))
+    c .refuse-objects .result ≡ first (objectTests (netIn (a .t .now)) (kindsIn (netIn (a .t .now)) (a .register .now)) (word w 0) (wordsAt w 8 (word w 4)))
 code c =
     let k = c .before .before .before in
     let a = k .before .before .before .before .before .args in
-    let e : c .refuse-objects .result ≡ first (objectTests (netIn (a .t .now)) (wordsOf (a .register .now)) (c .before .wide2 .result) (wordsOf (take (8 + 4 * k .wide .result - 8) (drop 8 (bytes k))))) = c .refuse-objects .ensures in
+    let e : c .refuse-objects .result ≡ first (objectTests (netIn (a .t .now)) (kindsIn (netIn (a .t .now)) (a .register .now)) (c .before .wide2 .result) (wordsOf (take (8 + 4 * k .wide .result - 8) (drop 8 (bytes k))))) = c .refuse-objects .ensures in
     e
-    ∙ ap₂ (λ (x : ℕ) (os : List ℕ). first (objectTests (netIn (a .t .now)) (wordsOf (a .register .now)) x os)) (c .before .wide2 .ensures ∙ k .before .before .word-at .ensures) (handed k)
+    ∙ ap₂ (λ (x : ℕ) (os : List ℕ). first (objectTests (netIn (a .t .now)) (kindsIn (netIn (a .t .now)) (a .register .now)) x os)) (c .before .wide2 .ensures ∙ k .before .before .word-at .ensures) (handed k)
 
 word-at-requires : tie.Need-word-at-requires
 word-at-requires c κs = search needs

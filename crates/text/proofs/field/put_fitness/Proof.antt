@@ -4,7 +4,7 @@ use mathlib.Core.List.{_∷_}
 use native.Mathlib.Omega.{arith}
 use lib.ListN.{length, set, length-set, length-drop}
 use Rattle.words.proofs.Over.{part, part-back, behind-first, length-over}
-use Rattle.text.specs.Fitness.{fitness, fitnessText}
+use Rattle.fitness.specs.Fitness.{fitness, fitnessText}
 use borrow.Author.Needs.{needs}
 use Rattle.text.proofs.field.put_fitness.Statement.{statement}
 use Rattle.text.proofs.field.put_fitness.Tie as tie
