@@ -1,1 +1,2 @@
 mod Written
+pub mod MaxLineHolds

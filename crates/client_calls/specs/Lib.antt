@@ -2,4 +2,3 @@ pub mod Client
 pub mod Objects
 pub mod CallList
 pub mod MaxRecord
-pub mod MaxLine

@@ -20,7 +20,7 @@ use Rattle.checkpoint.specs.Calls as list
 use Rattle.checkpoint.specs.Demand.{plainRecord, plainSaves, Demand3}
 use Rattle.client_answers.specs.Answers.{packed, number, second, wrote}
 use Rattle.client_check.specs.Objects.{objectsIn}
-use Rattle.client.specs.Client.{startAnswer, startLeaves, askAnswer, askLeaves, restoreAnswer, saveAnswer, saveLeaves}
+use Rattle.client_calls.specs.Client.{startAnswer, startLeaves, askAnswer, askLeaves, restoreAnswer, saveAnswer, saveLeaves}
 
 -- the front of lent bytes, as long as the answer says: conform.h tells the caller to cut it out
 abbrev pub front : ℕ → List ℕ → List ℕ

@@ -22,8 +22,8 @@ use Rattle.checkpoint.proofs.Restored.{restored-loads}
 use Rattle.client_answers.specs.Answers.{packed}
 use Rattle.client_check.specs.OnTrail.{onTrail}
 use Rattle.client_check.specs.Objects.{objectsIn}
-use Rattle.client.specs.Client.{askAnswer, askLeaves}
-use Rattle.client.specs.Objects.{unevenTests, ObjectsRule}
+use Rattle.client_calls.specs.Client.{askAnswer, askLeaves}
+use Rattle.client_calls.specs.Objects.{unevenTests, ObjectsRule}
 use Rattle.client_check.proofs.ObjectLaws.{rows-in, no-rows, many-rows}
 
 -- an activity has at most eight arcs, so that over eight objects give the first of 21 to 24

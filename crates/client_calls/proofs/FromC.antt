@@ -34,10 +34,10 @@ use Rattle.checkpoint.specs.Demand as Demand
 use Rattle.checkpoint.proofs.Demands.{Last, restores-at, last-ask, last-save, back, demand-three}
 use Rattle.client_answers.specs.Answers.{packed, number, wrote}
 use Rattle.client_check.specs.Objects.{objectsIn}
-use Rattle.client.specs.Client.{startAnswer, askAnswer, askLeaves, restoreAnswer, saveAnswer, saveLeaves}
-use Rattle.client.specs.CallList.{Call, event, close, save, restore, answer, taken, wroteBy, next, Given, answers, trail, written, Fair, Undamaged, meant, plainAnswers, startedBy, FairList, FromC}
-use Rattle.client.proofs.MaxRecordHolds.{room-saves}
-use Rattle.client.proofs.Numbers.{ask-answer, ask-number, ask-few, ask-leaves, save-answer, save-number, save-front, restore-number, restore-front, start-loads, start-registers, start-front}
+use Rattle.client_calls.specs.Client.{startAnswer, askAnswer, askLeaves, restoreAnswer, saveAnswer, saveLeaves}
+use Rattle.client_calls.specs.CallList.{Call, event, close, save, restore, answer, taken, wroteBy, next, Given, answers, trail, written, Fair, Undamaged, meant, plainAnswers, startedBy, FairList, FromC}
+use Rattle.client_calls.proofs.MaxRecordHolds.{room-saves}
+use Rattle.client_calls.proofs.Numbers.{ask-answer, ask-number, ask-few, ask-leaves, save-answer, save-number, save-front, restore-number, restore-front, start-loads, start-registers, start-front}
 
 -- a restore does to the trail what it does in demand 3
 module _ (b r lent : List ℕ) where

@@ -12,7 +12,7 @@ use Rattle.replay.specs.Calls.{netAt, stateAt}
 use Rattle.client_answers.specs.Answers.{packed}
 use Rattle.client_check.specs.OnTrail.{onTrail}
 use Rattle.client_check.specs.Objects.{objectsIn}
-use Rattle.client.specs.Client.{askAnswer, askLeaves}
+use Rattle.client_calls.specs.Client.{askAnswer, askLeaves}
 
 -- 21 to 24, for an event of activity a with a list that cannot have one row for each arc
 abbrev pub unevenTests : List ℕ → ℕ → List (Bool × ℕ)

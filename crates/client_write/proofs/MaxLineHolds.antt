@@ -19,9 +19,9 @@ use Rattle.report.specs.TrailLines.{placeLineAt, actLineAt, jumpLineAt}
 use Rattle.report.specs.Lengths.{maxLine, HasRoom}
 use Rattle.report.proofs.LengthLaws.{has-room}
 use Rattle.client_answers.specs.Answers.{number}
 use Rattle.client_write.specs.Writing.{writeAnswer}
-use Rattle.client.specs.MaxLine.{MaxLine}
-use Rattle.client.proofs.MaxRecordHolds.{restore-few}
+use Rattle.client_write.specs.MaxLine.{MaxLine}
+use Rattle.client_check.proofs.Checks.{restore-few}
 
 -- 41 to 47, or there is room
 room : (b lent : List ℕ) → maxLine ≤ length lent → restoreCode b ≡ 0 → HasRoom b lent

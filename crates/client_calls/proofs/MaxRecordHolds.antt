@@ -19,14 +19,11 @@ use Rattle.checkpoint.specs.Take.{takeCode}
 use Rattle.checkpoint.proofs.Restored.{restored-le}
 use Rattle.checkpoint.proofs.Demands.{roomy}
 use Rattle.client_answers.specs.Answers.{number}
-use Rattle.client.specs.Client.{beginCode, saveAnswer}
-use Rattle.client.specs.MaxRecord.{MaxRecord}
-use Rattle.client.proofs.Numbers.{start-number, start-le, save-number, restore-number}
+use Rattle.client_check.proofs.Checks.{restore-few}
+use Rattle.client_calls.specs.Client.{beginCode, saveAnswer}
+use Rattle.client_calls.specs.MaxRecord.{MaxRecord}
+use Rattle.client_calls.proofs.Numbers.{start-number, start-le, save-number, restore-number}
 use Rattle.replay.specs.Limits.{maxRecord}
-
-pub restore-few : (b : List ℕ) → restoreCode b ≤ 47
-unfolding restoreCode
-restore-few b = first-le 47 (restoreTests b) (omega arith)
 
 -- restoring: 41 to 47, or there is room
 module _ (r : List ℕ) (room : ℕ) (h : maxRecord ≤ room) where

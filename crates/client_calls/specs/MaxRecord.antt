@@ -9,7 +9,7 @@ use Rattle.replay.specs.Plain.{registerCode}
 use Rattle.replay.specs.Calls.{startRecord}
 use Rattle.checkpoint.specs.Restore.{restoreCode}
 use Rattle.client_answers.specs.Answers.{number}
-use Rattle.client.specs.Client.{startAnswer, restoreAnswer, saveAnswer}
+use Rattle.client_calls.specs.Client.{startAnswer, restoreAnswer, saveAnswer}
 use Rattle.replay.specs.Limits.{maxRecord}
 
 pub record MaxRecord : Type 0 where

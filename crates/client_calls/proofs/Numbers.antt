@@ -27,7 +27,7 @@ use Rattle.checkpoint.specs.Calls.{saveTests, saveCode, saveBytes}
 use Rattle.checkpoint.specs.Take.{takeTests, takeCode, takeBytes}
 use Rattle.checkpoint_restore.proofs.Lent.{saved-front, restored-front}
 use Rattle.client_answers.specs.Answers.{packed, number, second, wrote}
-use Rattle.client.specs.Client.{beginCode, startAnswer, startLeaves, askAnswer, askLeaves, restoreAnswer, saveAnswer, saveLeaves}
+use Rattle.client_calls.specs.Client.{beginCode, startAnswer, startLeaves, askAnswer, askLeaves, restoreAnswer, saveAnswer, saveLeaves}
 use Rattle.replay.specs.Limits.{maxRecord}
 
 number-is : (n s : ℕ) → n ≤ 61 → number (packed n s) ≡ n

@@ -1,0 +1,4 @@
+pub mod Numbers
+pub mod ObjectsHold
+pub mod MaxRecordHolds
+pub mod FromC
