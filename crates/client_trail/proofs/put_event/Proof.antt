@@ -6,8 +6,8 @@ use Rattle.replay.specs.Calls.{askCode, askBytes}
 use Rattle.client_answers.specs.Answers.{packed}
 use Rattle.client_check.proofs.ObjectLaws.{told-rows, told-nine}
 use borrow.Author.Needs.{needs}
-use Rattle.client.proofs.calls.put_event.Statement.{statement}
-use Rattle.client.proofs.calls.put_event.Tie as tie
+use Rattle.client_trail.proofs.put_event.Statement.{statement}
+use Rattle.client_trail.proofs.put_event.Tie as tie
 use Rattle.replay.specs.Plain.{askEvent}
 
 -- an event of activity a with the objects xs is put to the trail b: its answer, and the bytes then

@@ -1,9 +1,9 @@
 -- A refused trail stops the call; else the answer is the save's own. Assumes nothing.
 use Rattle.client_check.proofs.Checks.{few}
-use Rattle.client.proofs.Checks.{save-stops, save-goes}
+use Rattle.client_trail.proofs.Checks.{save-stops, save-goes}
 use borrow.Author.Needs.{needs}
-use Rattle.client.proofs.conform_save.Statement.{statement}
-use Rattle.client.proofs.conform_save.Tie as tie
+use Rattle.client_trail.proofs.save.Statement.{statement}
+use Rattle.client_trail.proofs.save.Tie as tie
 
 checked-requires : tie.Need-checked-requires
 checked-requires c κs = search needs
@@ -22,6 +22,6 @@ returns-2 : tie.Need-returns-2
 returns-2 c = let s = c .before .before .before .before .before .before .before .before .before in
     save-goes (s .args .trail .now) _ _ (c .before .before .before .before .before .checked .ensures) (c .before .before .before .before .if1 .left) (s .args .lent .now) _ _ (c .before .before .put-save .ensures)
 
-pub conform-save-spec : {M : Type 1} → statement M
-conform-save-spec =
+pub save-spec : {M : Type 1} → statement M
+save-spec =
     tie.close (tie.spec checked-requires returns put-save-requires same-length returns-2)

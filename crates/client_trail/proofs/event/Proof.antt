@@ -1,9 +1,9 @@
 -- A refused trail stops the call; else the answer is the call's own. Assumes nothing.
 use Rattle.client_check.specs.Objects.{objectsIn}
-use Rattle.client.proofs.Checks.{ask-stops, ask-goes}
+use Rattle.client_trail.proofs.Checks.{ask-stops, ask-goes}
 use borrow.Author.Needs.{needs}
-use Rattle.client.proofs.conform_event.Statement.{statement}
-use Rattle.client.proofs.conform_event.Tie as tie
+use Rattle.client_trail.proofs.event.Statement.{statement}
+use Rattle.client_trail.proofs.event.Tie as tie
 use Rattle.replay.specs.Plain.{askEvent}
 
 checked-requires : tie.Need-checked-requires
@@ -26,7 +26,7 @@ returns-2 : tie.Need-returns-2
 returns-2 c = let s = c .before .before .before .before .before .before .before .before .before .before .before in
     ask-goes (s .args .trail .now) _ _ (c .before .before .before .before .before .before .checked .ensures) (c .before .before .before .before .before .if1 .left) (askEvent (s .args .activity) (objectsIn (s .args .objects .now))) _ _ (c .before .before .put-event .ensures)
 
-pub conform-event-spec : {M : Type 1} → statement M
-conform-event-spec =
+pub event-spec : {M : Type 1} → statement M
+event-spec =
     tie.close
     (tie.spec checked-requires same-length returns put-event-requires same-length-2 returns-2)

@@ -1,8 +1,8 @@
 -- A register of no whole rows gives 11. Assumes nothing.
-use Rattle.client.proofs.Starts.{rows-stop}
+use Rattle.client_start.proofs.Starts.{rows-stop}
 use borrow.Author.Needs.{needs}
-use Rattle.client.proofs.calls.begin.Statement.{statement}
-use Rattle.client.proofs.calls.begin.Tie as tie
+use Rattle.client_start.proofs.begin.Statement.{statement}
+use Rattle.client_start.proofs.begin.Tie as tie
 
 returns : tie.Need-returns
 returns c = let s = c .before .before .before .before in

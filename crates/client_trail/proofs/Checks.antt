@@ -1,21 +1,17 @@
 -- The answers of the calls on a lent trail, by what came of its check. Assumes nothing.
-use Prim.Native.Nat.{ℕ, _≤_}
+use Prim.Native.Nat.{ℕ}
 use mathlib.Core.Path.{_≡_, _∙_}
 use mathlib.Core.List.{List}
 use native.Mathlib.Omega.{arith}
 use lib.ListN.{length}
-use borrow.Author.Tests.{ltb-false, ne-eqb}
-use Rattle.words.proofs.Refusals.{none-apply}
+use borrow.Author.Tests.{ne-eqb}
 use Rattle.replay.specs.Plain.{Ask}
 use Rattle.replay.specs.Calls.{askCode, askBytes}
-use Rattle.checkpoint.specs.Restore.{restoreSecond}
 use Rattle.checkpoint.specs.Calls.{saveCode, saveBytes}
-use Rattle.checkpoint.specs.Take.{takeTests, takeCode}
 use Rattle.client_answers.specs.Answers.{packed, wrote}
 use Rattle.client_check.specs.Checked.{Checked}
 use Rattle.client_check.proofs.Checks.{stop-answer, stop-bytes, go-answer, go-bytes}
-use Rattle.client.specs.Client.{askAnswer, askLeaves, restoreAnswer, saveAnswer, saveLeaves}
-use Rattle.replay.specs.Limits.{maxRecord}
+use Rattle.client_calls.specs.Client.{askAnswer, askLeaves, saveAnswer, saveLeaves}
 
 module _ (b w : List ℕ) (r : ℕ) (C : Checked b w r) where
   -- the trail is refused
@@ -38,20 +34,6 @@ module _ (b w : List ℕ) (r : ℕ) (C : Checked b w r) where
         → (n ≡ saveAnswer b (length lent)) × (x ≡ saveLeaves b lent)
     unfolding saveAnswer saveLeaves
     save-goes lent n x e = (e .0 ∙ go-answer b w r C z (wrote (saveCode b (length lent)) (length b)), e .1 ∙ go-bytes b w r C z (saveBytes b lent) lent)
-
--- taking up the record r
-module _ (r : List ℕ) (room : ℕ) where
-  pub restore-le : takeCode r room ≡ 0 → length r ≤ maxRecord
-  unfolding takeCode
-  restore-le z = ltb-false maxRecord (length r) (none-apply (takeTests r room) (omega arith) z .1 .0)
-
-  pub restore-refused : (n c s : ℕ) → n ≡ packed c s → c ≡ takeCode r room → s ≡ restoreSecond r → (c ≡ 0 → ⊥) → n ≡ restoreAnswer r room
-  unfolding restoreAnswer
-  restore-refused n c s e f g p = rw (ne-eqb (takeCode r room) 0 (λ z. p (f ∙ z))) (omega arith)
-
-  pub restore-taken : (n : ℕ) → n ≡ packed 0 (length r) → takeCode r room ≡ 0 → n ≡ restoreAnswer r room
-  unfolding restoreAnswer
-  restore-taken n e z = rw z e
 
 -- the answer of a call that writes m bytes where its code is 0
 module _ (code m n : ℕ) where

@@ -1,10 +1,10 @@
 -- The number of the start, and how many bytes the record takes where it was taken. Assumes nothing.
 use mathlib.Core.Path.{sym, _∙_}
 use native.Mathlib.Omega.{arith}
-use Rattle.client.proofs.Starts.{start-refused, sizes, size-le, start-taken}
+use Rattle.client_start.proofs.Starts.{start-refused, sizes, size-le, start-taken}
 use borrow.Author.Needs.{needs}
-use Rattle.client.proofs.calls.begin_rows.Statement.{statement}
-use Rattle.client.proofs.calls.begin_rows.Tie as tie
+use Rattle.client_start.proofs.begin_rows.Statement.{statement}
+use Rattle.client_start.proofs.begin_rows.Tie as tie
 
 start-requires : tie.Need-start-requires
 start-requires c κs = search needs

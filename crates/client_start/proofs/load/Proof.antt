@@ -2,10 +2,10 @@
 use mathlib.Core.Path.{ap, _∙_}
 use Prim.Native.Nat.{ℕ}
 use Rattle.client_answers.specs.Answers.{packed}
-use Rattle.client.specs.Client.{loadAnswer}
+use Rattle.client_calls.specs.Client.{loadAnswer}
 use borrow.Author.Needs.{needs}
-use Rattle.client.proofs.conform_load.Statement.{statement}
-use Rattle.client.proofs.conform_load.Tie as tie
+use Rattle.client_start.proofs.load.Statement.{statement}
+use Rattle.client_start.proofs.load.Tie as tie
 
 load-fresh-requires : tie.Need-load-fresh-requires
 load-fresh-requires c κs = search needs
@@ -20,5 +20,5 @@ returns : tie.Need-returns
 unfolding loadAnswer
 returns c = c .pack .ensures ∙ ap (λ (n : ℕ). packed n 0) (c .before .code .ensures ∙ c .before .before .load-fresh .ensures .0)
 
-pub conform-load-spec : {M : Type 1} → statement M
-conform-load-spec = tie.close (tie.spec load-fresh-requires code-requires pack-requires returns)
+pub load-spec : {M : Type 1} → statement M
+load-spec = tie.close (tie.spec load-fresh-requires code-requires pack-requires returns)

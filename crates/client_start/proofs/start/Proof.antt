@@ -3,10 +3,10 @@ use mathlib.Core.Path.{sym, _∙_}
 use Prim.Native.Nat.{ℕ}
 use lib.ListN.{length-replicate}
 use Rattle.net.proofs.HeldLaws.{loaded-tabled}
-use Rattle.client.proofs.Starts.{table-stops}
+use Rattle.client_start.proofs.Starts.{table-stops}
 use borrow.Author.Needs.{needs}
-use Rattle.client.proofs.conform_start.Statement.{statement}
-use Rattle.client.proofs.conform_start.Tie as tie
+use Rattle.client_start.proofs.start.Statement.{statement}
+use Rattle.client_start.proofs.start.Tie as tie
 use Rattle.net.specs.Limits.{netWords}
 
 load-fresh-requires : tie.Need-load-fresh-requires
@@ -34,8 +34,8 @@ same-length c = search needs
 returns-2 : tie.Need-returns-2
 returns-2 c = search needs
 
-pub conform-start-spec : {M : Type 1} → statement M
-conform-start-spec =
+pub start-spec : {M : Type 1} → statement M
+start-spec =
     tie.close
     (tie.spec
     load-fresh-requires

@@ -14,8 +14,8 @@ use Rattle.replay.specs.Calls.{startCode, startBytes}
 use Rattle.replay_start.specs.Startable.{Startable}
 use Rattle.replay_start.proofs.StartLaws.{table-few, objects-few, record-size}
 use Rattle.client_answers.specs.Answers.{packed}
-use Rattle.client.proofs.Numbers.{registers, start-le}
-use Rattle.client.specs.Client.{beginCode, startAnswer, startLeaves}
+use Rattle.client_calls.proofs.Numbers.{registers, start-le}
+use Rattle.client_calls.specs.Client.{beginCode, startAnswer, startLeaves}
 use Rattle.net.specs.Limits.{maxTable}
 use Rattle.replay.specs.Limits.{maxRecord}
 

@@ -1,9 +1,9 @@
 -- A refused trail stops the call; else the answer is the call's own. Assumes nothing.
 use Rattle.replay_close.specs.Answers.{askClose}
-use Rattle.client.proofs.Checks.{ask-stops, ask-goes}
+use Rattle.client_trail.proofs.Checks.{ask-stops, ask-goes}
 use borrow.Author.Needs.{needs}
-use Rattle.client.proofs.conform_close.Statement.{statement}
-use Rattle.client.proofs.conform_close.Tie as tie
+use Rattle.client_trail.proofs.close.Statement.{statement}
+use Rattle.client_trail.proofs.close.Tie as tie
 
 checked-requires : tie.Need-checked-requires
 checked-requires c κs = search needs
@@ -25,7 +25,7 @@ returns-2 : tie.Need-returns-2
 returns-2 c = let s = c .before .before .before .before .before .before .before .before .before .before in
     ask-goes (s .args .trail .now) _ _ (c .before .before .before .before .before .before .checked .ensures) (c .before .before .before .before .before .if1 .left) askClose _ _ (c .before .before .put-close .ensures)
 
-pub conform-close-spec : {M : Type 1} → statement M
-conform-close-spec =
+pub close-spec : {M : Type 1} → statement M
+close-spec =
     tie.close
     (tie.spec checked-requires same-length returns put-close-requires same-length-2 returns-2)

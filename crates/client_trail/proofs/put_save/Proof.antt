@@ -2,10 +2,10 @@
 use mathlib.Core.Path.{sym, _∙_}
 use lib.ListN.{length}
 use Rattle.checkpoint.specs.Calls.{saveCode}
-use Rattle.client.proofs.Checks.{wrote-none, wrote-all}
+use Rattle.client_trail.proofs.Checks.{wrote-none, wrote-all}
 use borrow.Author.Needs.{needs}
-use Rattle.client.proofs.calls.put_save.Statement.{statement}
-use Rattle.client.proofs.calls.put_save.Tie as tie
+use Rattle.client_trail.proofs.put_save.Statement.{statement}
+use Rattle.client_trail.proofs.put_save.Tie as tie
 
 save-requires : tie.Need-save-requires
 save-requires c κs = search needs

@@ -2,10 +2,10 @@
 use mathlib.Core.Path.{sym, _∙_}
 use native.Mathlib.Omega.{arith}
 use lib.ListN.{length}
-use Rattle.client.proofs.Checks.{restore-le, restore-refused, restore-taken}
+use Rattle.client_start.proofs.Restores.{restore-le, restore-refused, restore-taken}
 use borrow.Author.Needs.{needs}
-use Rattle.client.proofs.conform_restore.Statement.{statement}
-use Rattle.client.proofs.conform_restore.Tie as tie
+use Rattle.client_start.proofs.restore.Statement.{statement}
+use Rattle.client_start.proofs.restore.Tie as tie
 
 restore-requires : tie.Need-restore-requires
 restore-requires c κs = search needs
@@ -44,8 +44,8 @@ returns-2 c = let a = c .before .before .before .before .before .before .before 
     let k = c .before .before .before .before .before .restore in
     (restore-taken (a .saved .now) (length (a .trail .now)) (c .pack2 .result) (c .pack2 .ensures) (sym (k .ensures .0) ∙ sym (c .before .before .code .ensures) ∙ c .before .if1 .left), k .ensures .1 .1)
 
-pub conform-restore-spec : {M : Type 1} → statement M
-conform-restore-spec =
+pub restore-spec : {M : Type 1} → statement M
+restore-spec =
     tie.close
     (tie.spec
     restore-requires
