@@ -1,21 +1,18 @@
 // The functions of the marking client, for C: numbers and byte slices, the trail held in lent bytes, which are its record.
 // Above all other libraries. Any bytes are taken or refused, 41 to 47 before a call's own numbers and 61 last.
 
-use client_write::Line;
-use client_write::write_numbers;
-use client_write::write_text;
 ghost use mathlib.Core.Path.{_≡_};
 ghost use mathlib.Core.List.{[]};
 ghost use lib.ListN.{length};
+ghost use Rattle.replay.specs.Plain.{askEvent};
 ghost use Rattle.replay_close.specs.Answers.{askClose};
 ghost use Rattle.replay_counts.specs.Reads.{placeTests, actTests, pairTests};
 ghost use Rattle.checkpoint.specs.Take.{takeBytes};
 ghost use Rattle.report.specs.TrailLines.{trailLineAt, placeLineAt, actLineAt, jumpLineAt};
 ghost use Rattle.client_check.specs.Objects.{objectsIn};
-ghost use Rattle.client_counts.specs.Numbers.{trailNumbers, placeNumbers, actNumbers, pairNumbers};
 ghost use Rattle.client_calls.specs.Client.{loadAnswer, startAnswer, startLeaves, askAnswer, askLeaves, restoreAnswer, saveAnswer, saveLeaves};
-ghost use Rattle.client_write.specs.Writing.{writeAnswer, writeLeaves};
-ghost use Rattle.replay.specs.Plain.{askEvent};
+ghost use Rattle.client_calls.specs.Writing.{writeAnswer, writeLeaves};
+ghost use Rattle.client_counts.specs.Numbers.{trailNumbers, placeNumbers, actNumbers, pairNumbers};
 
 // Loads a table, to see whether it is taken: 1 to 9.
 #[no_mangle]
@@ -76,7 +73,7 @@ pub extern "C" fn conform_trail_line(trail: &[u8], line: &mut [u8]) -> u64
     ensures { λ r. ⌜ r ≡ writeAnswer (now (trail .entry)) [] (trailLineAt (now (trail .entry))) (now (line .entry)) ⌝ }
     ensures { λ _. ⌜ now (line .exit) ≡ writeLeaves (now (trail .entry)) [] (trailLineAt (now (trail .entry))) (now (line .entry)) ⌝ }
 {
-    write_text(trail, Line::Trail, line)
+    client_lines::trail_line(trail, line)
 }
 
 // The line of a place: 51, 61, or the line.
@@ -85,7 +82,7 @@ pub extern "C" fn conform_place_line(trail: &[u8], place: u32, line: &mut [u8]) 
     ensures { λ r. ⌜ r ≡ writeAnswer (now (trail .entry)) (placeTests (now (trail .entry)) place) (placeLineAt (now (trail .entry)) place) (now (line .entry)) ⌝ }
     ensures { λ _. ⌜ now (line .exit) ≡ writeLeaves (now (trail .entry)) (placeTests (now (trail .entry)) place) (placeLineAt (now (trail .entry)) place) (now (line .entry)) ⌝ }
 {
-    write_text(trail, Line::Place(place), line)
+    client_lines::place_line(trail, place, line)
 }
 
 // The line of an activity: 52, 61, or the line.
@@ -94,7 +91,7 @@ pub extern "C" fn conform_act_line(trail: &[u8], activity: u32, line: &mut [u8])
     ensures { λ r. ⌜ r ≡ writeAnswer (now (trail .entry)) (actTests (now (trail .entry)) activity) (actLineAt (now (trail .entry)) activity) (now (line .entry)) ⌝ }
     ensures { λ _. ⌜ now (line .exit) ≡ writeLeaves (now (trail .entry)) (actTests (now (trail .entry)) activity) (actLineAt (now (trail .entry)) activity) (now (line .entry)) ⌝ }
 {
-    write_text(trail, Line::Act(activity), line)
+    client_lines::act_line(trail, activity, line)
 }
 
 // The line of the jumps from one place to another: 51, 61, or the line, which is nothing where there are none.
@@ -103,7 +100,7 @@ pub extern "C" fn conform_jump_line(trail: &[u8], from: u32, to: u32, line: &mut
     ensures { λ r. ⌜ r ≡ writeAnswer (now (trail .entry)) (pairTests (now (trail .entry)) from to) (jumpLineAt (now (trail .entry)) from to) (now (line .entry)) ⌝ }
     ensures { λ _. ⌜ now (line .exit) ≡ writeLeaves (now (trail .entry)) (pairTests (now (trail .entry)) from to) (jumpLineAt (now (trail .entry)) from to) (now (line .entry)) ⌝ }
 {
-    write_text(trail, Line::Jump(from, to), line)
+    client_lines::jump_line(trail, from, to, line)
 }
 
 // The numbers of the trail's line: objects, events, jumps, transfers.
@@ -112,7 +109,7 @@ pub extern "C" fn conform_trail_counts(trail: &[u8], counts: &mut [u8]) -> u64
     ensures { λ r. ⌜ r ≡ writeAnswer (now (trail .entry)) [] (trailNumbers (now (trail .entry))) (now (counts .entry)) ⌝ }
     ensures { λ _. ⌜ now (counts .exit) ≡ writeLeaves (now (trail .entry)) [] (trailNumbers (now (trail .entry))) (now (counts .entry)) ⌝ }
 {
-    write_numbers(trail, Line::Trail, counts)
+    client_numbers::trail_counts(trail, counts)
 }
 
 // The numbers of a place's line: its number, TAKEN, IN, OUT.
@@ -121,7 +118,7 @@ pub extern "C" fn conform_place_counts(trail: &[u8], place: u32, counts: &mut [u
     ensures { λ r. ⌜ r ≡ writeAnswer (now (trail .entry)) (placeTests (now (trail .entry)) place) (placeNumbers (now (trail .entry)) place) (now (counts .entry)) ⌝ }
     ensures { λ _. ⌜ now (counts .exit) ≡ writeLeaves (now (trail .entry)) (placeTests (now (trail .entry)) place) (placeNumbers (now (trail .entry)) place) (now (counts .entry)) ⌝ }
 {
-    write_numbers(trail, Line::Place(place), counts)
+    client_numbers::place_counts(trail, place, counts)
 }
 
 // The numbers of an activity's line: its number, FIRED, MOVED, JUMPS.
@@ -130,7 +127,7 @@ pub extern "C" fn conform_act_counts(trail: &[u8], activity: u32, counts: &mut [
     ensures { λ r. ⌜ r ≡ writeAnswer (now (trail .entry)) (actTests (now (trail .entry)) activity) (actNumbers (now (trail .entry)) activity) (now (counts .entry)) ⌝ }
     ensures { λ _. ⌜ now (counts .exit) ≡ writeLeaves (now (trail .entry)) (actTests (now (trail .entry)) activity) (actNumbers (now (trail .entry)) activity) (now (counts .entry)) ⌝ }
 {
-    write_numbers(trail, Line::Act(activity), counts)
+    client_numbers::act_counts(trail, activity, counts)
 }
 
 // The numbers of a pair's line: the two places and the jump count, also where that is 0.
@@ -139,5 +136,5 @@ pub extern "C" fn conform_jump_count(trail: &[u8], from: u32, to: u32, counts: &
     ensures { λ r. ⌜ r ≡ writeAnswer (now (trail .entry)) (pairTests (now (trail .entry)) from to) (pairNumbers (now (trail .entry)) from to) (now (counts .entry)) ⌝ }
     ensures { λ _. ⌜ now (counts .exit) ≡ writeLeaves (now (trail .entry)) (pairTests (now (trail .entry)) from to) (pairNumbers (now (trail .entry)) from to) (now (counts .entry)) ⌝ }
 {
-    write_numbers(trail, Line::Jump(from, to), counts)
+    client_numbers::jump_count(trail, from, to, counts)
 }

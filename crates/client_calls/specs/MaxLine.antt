@@ -8,7 +8,7 @@ use Rattle.replay_counts.specs.Reads.{placeTests, actTests, pairTests}
 use Rattle.report.specs.TrailLines.{trailLineAt, placeLineAt, actLineAt, jumpLineAt}
 use Rattle.report.specs.Lengths.{maxLine}
 use Rattle.client_answers.specs.Answers.{number}
-use Rattle.client_write.specs.Writing.{writeAnswer}
+use Rattle.client_calls.specs.Writing.{writeAnswer}
 
 pub record MaxLine : Type 0 where
   pub trail-fits : (b lent : List ℕ) → maxLine ≤ length lent → number (writeAnswer b [] (trailLineAt b) lent) ≡ 61 → ⊥

@@ -19,8 +19,8 @@ use Rattle.report.specs.TrailLines.{placeLineAt, actLineAt, jumpLineAt}
 use Rattle.report.specs.Lengths.{maxLine, HasRoom}
 use Rattle.report.proofs.LengthLaws.{has-room}
 use Rattle.client_answers.specs.Answers.{number}
-use Rattle.client_write.specs.Writing.{writeAnswer}
-use Rattle.client_write.specs.MaxLine.{MaxLine}
+use Rattle.client_calls.specs.Writing.{writeAnswer}
+use Rattle.client_calls.specs.MaxLine.{MaxLine}
 use Rattle.client_check.proofs.Checks.{restore-few}
 
 -- 41 to 47, or there is room

@@ -1,2 +1,0 @@
-mod Written
-pub mod MaxLineHolds
