@@ -11,7 +11,6 @@ use lib.ListN.{length}
 use lib.Dec.{ltb, eqb}
 use borrow.Author.Tests.{eqb-false, eq-eqb, ne-eqb}
 use Rattle.words.specs.Lists.{pick, All}
-use Rattle.words.specs.Words.{wordsOf}
 use Rattle.words.proofs.Lists.{All-to}
 use Rattle.words.proofs.Refusals.{first-then}
 use Rattle.net.specs.Net.{Net}
@@ -19,6 +18,7 @@ use Rattle.net.specs.Table.{netOf, loadCode}
 use Rattle.net.proofs.Promise.{promise}
 use Rattle.replay.specs.Plain as P
 use Rattle.replay.specs.Plain.{Ask, Plain, start, ask, run, registerCode, askEvent}
+use Rattle.replay.specs.Register.{kindsIn}
 use Rattle.replay.specs.State.{stateOf}
 use Rattle.replay.specs.Sound.{Sound}
 use Rattle.replay.specs.Calls.{askCode, askBytes, startRecord}
@@ -217,7 +217,7 @@ from-c table objects lent cs z f = record {
   bytes = rw e (k .bytes);
   undamaged = rw e (k .undamaged);
   records = w;
-  resumed = subst (λ (rs : List (List ℕ)). All Resumes rs) (D .records ∙ sym w) (All-to Returns Resumes (λ r h b lent f. restore-next b r lent ∙ h b (length lent) f) (saves (startRecord table (wordsOf objects)) (map meant cs)) (D .resumed));
+  resumed = subst (λ (rs : List (List ℕ)). All Resumes rs) (D .records ∙ sym w) (All-to Returns Resumes (λ r h b lent f. restore-next b r lent ∙ h b (length lent) f) (saves (startRecord table (kindsIn (netOf table) objects)) (map meant cs)) (D .resumed));
   unchanged = unchanged;
   save-unchanged = save-unchanged;
   restore-unchanged = restore-unchanged;
@@ -227,18 +227,18 @@ from-c table objects lent cs z f = record {
     good : loadCode table ≡ 0
     good = start-loads table objects lent z
 
-    ok : registerCode (netOf table) (wordsOf objects) ≡ 0
+    ok : registerCode (netOf table) (kindsIn (netOf table) objects) ≡ 0
     ok = start-registers table objects lent z
 
-    e : startedBy table objects lent ≡ startRecord table (wordsOf objects)
+    e : startedBy table objects lent ≡ startRecord table (kindsIn (netOf table) objects)
     e = start-front table objects lent z
 
-    k : Kept table good (some (startRecord table (wordsOf objects))) (startRecord table (wordsOf objects)) (start (wordsOf objects)) cs
-    k = kept table good cs (some (startRecord table (wordsOf objects))) (start (wordsOf objects)) (sound-reached (netOf table) (promise table good) (wordsOf objects) ok []) (inr refl)
+    k : Kept table good (some (startRecord table (kindsIn (netOf table) objects))) (startRecord table (kindsIn (netOf table) objects)) (start (kindsIn (netOf table) objects)) cs
+    k = kept table good cs (some (startRecord table (kindsIn (netOf table) objects))) (start (kindsIn (netOf table) objects)) (sound-reached (netOf table) (promise table good) (kindsIn (netOf table) objects) ok []) (inr refl)
         (subst (λ (x : List ℕ). Fair (some x) x cs) e f)
 
-    D : Demand3 table (wordsOf objects) (map meant cs)
-    D = demand-three table (wordsOf objects) good ok (map meant cs) (k .fair)
+    D : Demand3 table (kindsIn (netOf table) objects) (map meant cs)
+    D = demand-three table (kindsIn (netOf table) objects) good ok (map meant cs) (k .fair)
 
-    w : written (startedBy table objects lent) cs ≡ plainSaves table (start (wordsOf objects)) (map meant cs)
+    w : written (startedBy table objects lent) cs ≡ plainSaves table (start (kindsIn (netOf table) objects)) (map meant cs)
     w = rw e (k .records)

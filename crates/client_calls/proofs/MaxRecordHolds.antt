@@ -1,17 +1,19 @@
 -- No record is longer than CONFORM_MAX_RECORD. Assumes nothing.
-use Prim.Native.Nat.{ℕ, _%_, _≤_}
+use Prim.Native.Nat.{ℕ, _≤_}
+use mathlib.Core.Bool.{Bool, true, false}
 use mathlib.Core.Path.{_≡_, sym, _∙_}
 use mathlib.Core.List.{List, [], _∷_}
 use native.Mathlib.Omega.{arith}
 use native.Mathlib.Decide.{ℕ-discrete}
 use lib.ListN.{length}
-use lib.Dec.{ltb}
+use lib.Dec.{ltb, eqb}
 use borrow.Author.Tests.{eq-eqb, ne-eqb, le-ltb}
-use Rattle.words.specs.Words.{wordsOf}
+use Rattle.words.specs.Lists.{pick}
 use Rattle.words.proofs.Refusals.{first-le, first-then, first-stays}
 use Rattle.net.specs.Table.{netOf, loadCode}
 use Rattle.net_loader.proofs.LoadLaws.{code-le}
 use Rattle.replay.specs.Plain.{registerTests, registerCode}
+use Rattle.replay.specs.Register.{wholeRows, kindsIn}
 use Rattle.replay.specs.Calls.{startRecord, startCode}
 use Rattle.checkpoint.specs.Restore.{restoreTests, restoreCode}
 use Rattle.checkpoint.specs.Calls.{saveCode}
@@ -53,18 +55,18 @@ module _ (table ks : List ℕ) (room : ℕ) (h : maxRecord ≤ room) (z : loadCo
       go (yes r) = omega (arith, code-taken r)
       go (no n) = omega (arith, first-stays (registerTests (netOf table) ks) ((ltb room (length (startRecord table ks)), 61) ∷ []) n, register-few)
 
-begin-taken : (table objects : List ℕ) (room : ℕ) → loadCode table ≡ 0 → length objects % 4 ≡ 0 → registerCode (netOf table) (wordsOf objects) ≡ 0 → maxRecord ≤ room → beginCode table objects room ≡ 0
+begin-taken : (table objects : List ℕ) (room : ℕ) → loadCode table ≡ 0 → wholeRows (netOf table) objects ≡ true → registerCode (netOf table) (kindsIn (netOf table) objects) ≡ 0 → maxRecord ≤ room → beginCode table objects room ≡ 0
 unfolding beginCode
-begin-taken table objects room z f r h = rw (eq-eqb (loadCode table) 0 z, eq-eqb (length objects % 4) 0 f) (code-taken table (wordsOf objects) room h z r)
+begin-taken table objects room z f r h = rw (eq-eqb (loadCode table) 0 z, f) (code-taken table (kindsIn (netOf table) objects) room h z r)
 
 begin-fits : (table objects : List ℕ) (room : ℕ) → maxRecord ≤ room → beginCode table objects room ≡ 61 → ⊥
 unfolding beginCode
-begin-fits table objects room h e = go (ℕ-discrete (loadCode table) 0) (ℕ-discrete (length objects % 4) 0)
+begin-fits table objects room h = go (ℕ-discrete (loadCode table) 0) (wholeRows (netOf table) objects)
   where
-    go : Dec (loadCode table ≡ 0) → Dec (length objects % 4 ≡ 0) → ⊥
-    go (yes z) (yes f) = code-fits table (wordsOf objects) room h z (rw (eq-eqb (loadCode table) 0 z, eq-eqb (length objects % 4) 0 f) at e)
-    go (yes z) (no f) = omega (arith, rw (eq-eqb (loadCode table) 0 z, ne-eqb (length objects % 4) 0 f) at e)
-    go (no n) u = omega (arith, code-le table, rw (ne-eqb (loadCode table) 0 n) at e)
+    go : Dec (loadCode table ≡ 0) → (u : Bool) → pick (eqb (loadCode table) 0) (pick u (startCode table (kindsIn (netOf table) objects) room) 11) (loadCode table) ≡ 61 → ⊥
+    go (yes z) true e = code-fits table (kindsIn (netOf table) objects) room h z (rw (eq-eqb (loadCode table) 0 z) at e)
+    go (yes z) false e = omega (arith, rw (eq-eqb (loadCode table) 0 z) at e)
+    go (no n) u e = omega (arith, code-le table, rw (ne-eqb (loadCode table) 0 n) at e)
 
 -- saving: 41 to 47, or there is room
 pub room-saves : (b : List ℕ) (room : ℕ) → length b ≤ room → saveCode b room ≡ 0

@@ -1,5 +1,5 @@
 -- The halves of each exported answer: its number is the call's own, and what it wrote can be cut out. Assumes nothing.
-use Prim.Native.Nat.{ℕ, _%_, _≤_, _<_}
+use Prim.Native.Nat.{ℕ, _≤_, _<_}
 use mathlib.Core.Bool.{Bool, true, false}
 use mathlib.Core.Path.{_≡_, refl, ap, sym, _∙_}
 use mathlib.Core.List.{List, [], _∷_}
@@ -10,13 +10,13 @@ use lib.Seq.{take-append-seam}
 use lib.Dec.{ltb, eqb}
 use borrow.Author.Tests.{eq-eqb, ne-eqb}
 use Rattle.words.specs.Lists.{pick, over}
-use Rattle.words.specs.Words.{wordsOf}
 use Rattle.words.proofs.Refusals.{none-apply, none-split, first-zero, first-le}
 use Rattle.net.specs.Net.{Loaded}
 use Rattle.net.specs.Table.{netOf, loadCode}
 use Rattle.net.proofs.Promise.{promise, table-size}
 use Rattle.net_loader.proofs.LoadLaws.{code-le}
 use Rattle.replay.specs.Plain.{Ask, event, close, eventTests, closeTests, registerTests, registerCode}
+use Rattle.replay.specs.Register.{wholeRows, kindsIn}
 use Rattle.replay.specs.State.{startState}
 use Rattle.replay.specs.Calls.{netAt, stateAt, askCode, askBytes, startTests, startRecord, startCode}
 use Rattle.replay.proofs.Accepted.{registered}
@@ -94,7 +94,7 @@ module _ (r : List ℕ) where
 module _ (table objects : List ℕ) (room : ℕ) where
   begin-le : beginCode table objects room ≤ 61
   unfolding beginCode startCode
-  begin-le = go (eqb (loadCode table) 0) (eqb (length objects % 4) 0) (first-le 61 (startTests table (wordsOf objects) room) (omega arith)) (code-le table)
+  begin-le = go (eqb (loadCode table) 0) (wholeRows (netOf table) objects) (first-le 61 (startTests table (kindsIn (netOf table) objects) room) (omega arith)) (code-le table)
     where
       go : (t u : Bool) {n m : ℕ} → n ≤ 61 → m ≤ 9 → pick t (pick u n 11) m ≤ 61
       go true true h k = h
@@ -122,21 +122,22 @@ module _ (table objects lent : List ℕ) (z : number (startAnswer table objects 
   begun : beginCode table objects (length lent) ≡ 0
   begun = sym (start-number table objects (length lent)) ∙ z
 
-  tests : (loadCode table ≡ 0) × (startCode table (wordsOf objects) (length lent) ≡ 0)
+  tests : (loadCode table ≡ 0) × (startCode table (kindsIn (netOf table) objects) (length lent) ≡ 0)
   unfolding beginCode
-  tests = go (ℕ-discrete (loadCode table) 0) (ℕ-discrete (length objects % 4) 0) begun
+  tests = go (ℕ-discrete (loadCode table) 0) (wholeRows (netOf table) objects) begun
     where
-      go : Dec (loadCode table ≡ 0) → Dec (length objects % 4 ≡ 0) → beginCode table objects (length lent) ≡ 0 → (loadCode table ≡ 0) × (startCode table (wordsOf objects) (length lent) ≡ 0)
-      go (yes e) (yes f) h = (e, rw (eq-eqb (loadCode table) 0 e, eq-eqb (length objects % 4) 0 f) at h)
-      go (yes e) (no f) h = absurd (omega (arith, rw (eq-eqb (loadCode table) 0 e, ne-eqb (length objects % 4) 0 f) at h))
+      go : Dec (loadCode table ≡ 0) → (u : Bool) → pick (eqb (loadCode table) 0) (pick u (startCode table (kindsIn (netOf table) objects) (length lent)) 11) (loadCode table) ≡ 0
+          → (loadCode table ≡ 0) × (startCode table (kindsIn (netOf table) objects) (length lent) ≡ 0)
+      go (yes e) true h = (e, rw (eq-eqb (loadCode table) 0 e) at h)
+      go (yes e) false h = absurd (omega (arith, rw (eq-eqb (loadCode table) 0 e) at h))
       go (no e) u h = absurd (e (rw (ne-eqb (loadCode table) 0 e) at h))
 
   pub start-loads : loadCode table ≡ 0
   start-loads = tests .0
 
-  pub start-registers : registerCode (netOf table) (wordsOf objects) ≡ 0
-  start-registers = registers table (wordsOf objects) (length lent) (tests .1)
+  pub start-registers : registerCode (netOf table) (kindsIn (netOf table) objects) ≡ 0
+  start-registers = registers table (kindsIn (netOf table) objects) (length lent) (tests .1)
 
-  pub start-front : take (second (startAnswer table objects (length lent))) (startLeaves table objects lent) ≡ startRecord table (wordsOf objects)
+  pub start-front : take (second (startAnswer table objects (length lent))) (startLeaves table objects lent) ≡ startRecord table (kindsIn (netOf table) objects)
   unfolding startAnswer startLeaves
-  start-front = let R : List ℕ = startRecord table (wordsOf objects) in rw begun (front-is (length R) (over R lent) ∙ take-append-seam R (drop (length R) lent))
+  start-front = let R : List ℕ = startRecord table (kindsIn (netOf table) objects) in rw begun (front-is (length R) (over R lent) ∙ take-append-seam R (drop (length R) lent))

@@ -9,10 +9,10 @@ use mathlib.Core.List.{List, [], _∷_, map}
 use lib.ListN.{length, take}
 use lib.Dec.{eqb}
 use Rattle.words.specs.Lists.{pick, All}
-use Rattle.words.specs.Words.{wordsOf}
 use Rattle.net.specs.Table.{netOf}
 use Rattle.replay.specs.Plain.{Plain, start, run, askEvent}
 use Rattle.replay.specs.Plain as P
+use Rattle.replay.specs.Register.{kindsIn}
 use Rattle.replay_close.specs.Answers.{askClose}
 use Rattle.checkpoint.specs.Take.{takeBytes}
 use Rattle.checkpoint.specs.Calls.{asks, saveCode, asked}
@@ -138,16 +138,16 @@ module _ (table objects lent : List ℕ) (cs : List Call) where
 
   -- the plain run of the list's events and closes alone, in one go
   abbrev pub plain : Plain
-  plain = run (netOf table) (start (wordsOf objects)) (asked (map meant cs))
+  plain = run (netOf table) (start (kindsIn (netOf table) objects)) (asked (map meant cs))
 
   pub record FromC : Type 0 where
     -- each answer, and the trail after the list, byte for byte
-    pub answers-are : answers started cs ≡ plainAnswers table (start (wordsOf objects)) cs
+    pub answers-are : answers started cs ≡ plainAnswers table (start (kindsIn (netOf table) objects)) cs
     pub bytes : trail started cs ≡ plainRecord table plain
     -- none of 41 to 47 on the way
     pub undamaged : Undamaged started cs
     -- each record written is the plain run's at that point
-    pub records : written started cs ≡ plainSaves table (start (wordsOf objects)) (map meant cs)
+    pub records : written started cs ≡ plainSaves table (start (kindsIn (netOf table) objects)) (map meant cs)
     -- restored with room for it, it is the trail that wrote it, whatever trail stood there before
     pub resumed : All (λ (r : List ℕ). (b lent : List ℕ) → length r ≤ length lent → next b (restore r lent) ≡ r) (written started cs)
     -- refused calls change nothing, neither of the trail nor of what they are lent
@@ -155,4 +155,4 @@ module _ (table objects lent : List ℕ) (cs : List Call) where
     pub save-unchanged : (b lent : List ℕ) → taken b (save lent) ≡ false → saveLeaves b lent ≡ lent
     pub restore-unchanged : (b r lent : List ℕ) → taken b (restore r lent) ≡ false → takeBytes r lent ≡ lent
     -- what demand 3 says of the plain run's record, which the trail is: positions, every count, and permitted runs
-    pub demand : Demand3 table (wordsOf objects) (map meant cs)
+    pub demand : Demand3 table (kindsIn (netOf table) objects) (map meant cs)

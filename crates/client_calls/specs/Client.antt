@@ -1,12 +1,12 @@
 -- What each exported call answers, and the lent bytes that it leaves, as functions of the bytes at entry.
-use Prim.Native.Nat.{ℕ, _%_}
+use Prim.Native.Nat.{ℕ}
 use mathlib.Core.List.{List}
 use lib.ListN.{length}
 use lib.Dec.{eqb}
 use Rattle.words.specs.Lists.{pick, over}
-use Rattle.words.specs.Words.{wordsOf}
-use Rattle.net.specs.Table.{loadCode}
+use Rattle.net.specs.Table.{netOf, loadCode}
 use Rattle.replay.specs.Plain.{Ask}
+use Rattle.replay.specs.Register.{wholeRows, kindsIn}
 use Rattle.replay.specs.Calls.{askCode, askBytes, startRecord, startCode}
 use Rattle.checkpoint.specs.Restore.{restoreSecond}
 use Rattle.checkpoint.specs.Calls.{saveCode, saveBytes}
@@ -21,14 +21,14 @@ loadAnswer table = packed (loadCode table) 0
 -- starting: the table's numbers, 11 also for a register of no whole rows, 12 and 61
 unfoldable pub beginCode : List ℕ → List ℕ → ℕ → ℕ
 beginCode table objects room =
-    pick (eqb (loadCode table) 0) (pick (eqb (length objects % 4) 0) (startCode table (wordsOf objects) room) 11) (loadCode table)
+    pick (eqb (loadCode table) 0) (pick (wholeRows (netOf table) objects) (startCode table (kindsIn (netOf table) objects) room) 11) (loadCode table)
 
 unfoldable pub startAnswer : List ℕ → List ℕ → ℕ → ℕ
-startAnswer table objects room = wrote (beginCode table objects room) (length (startRecord table (wordsOf objects)))
+startAnswer table objects room = wrote (beginCode table objects room) (length (startRecord table (kindsIn (netOf table) objects)))
 
 unfoldable pub startLeaves : List ℕ → List ℕ → List ℕ → List ℕ
 startLeaves table objects lent =
-    pick (eqb (beginCode table objects (length lent)) 0) (over (startRecord table (wordsOf objects)) lent) lent
+    pick (eqb (beginCode table objects (length lent)) 0) (over (startRecord table (kindsIn (netOf table) objects)) lent) lent
 
 -- an event, a close
 unfoldable pub askAnswer : List ℕ → Ask → ℕ

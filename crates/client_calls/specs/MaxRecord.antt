@@ -1,11 +1,12 @@
 -- CONFORM_MAX_RECORD of conform.h, 29,844 bytes, is always enough for a trail and for its record.
-use Prim.Native.Nat.{ℕ, _%_, _≤_}
+use Prim.Native.Nat.{ℕ, _≤_}
+use mathlib.Core.Bool.{true}
 use mathlib.Core.Path.{_≡_}
 use mathlib.Core.List.{List}
 use lib.ListN.{length}
-use Rattle.words.specs.Words.{wordsOf}
 use Rattle.net.specs.Table.{netOf, loadCode}
 use Rattle.replay.specs.Plain.{registerCode}
+use Rattle.replay.specs.Register.{wholeRows, kindsIn}
 use Rattle.replay.specs.Calls.{startRecord}
 use Rattle.checkpoint.specs.Restore.{restoreCode}
 use Rattle.client_answers.specs.Answers.{number}
@@ -17,7 +18,7 @@ pub record MaxRecord : Type 0 where
   pub start-le : (table ks : List ℕ) → loadCode table ≡ 0 → registerCode (netOf table) ks ≡ 0 → length (startRecord table ks) ≤ maxRecord
   pub trail-le : (b : List ℕ) → restoreCode b ≡ 0 → length b ≤ maxRecord
   -- so starting is taken where the table loads, the register is of whole rows and taken, and as many bytes are lent
-  pub starts : (table objects : List ℕ) (room : ℕ) → loadCode table ≡ 0 → length objects % 4 ≡ 0 → registerCode (netOf table) (wordsOf objects) ≡ 0 → maxRecord ≤ room
+  pub starts : (table objects : List ℕ) (room : ℕ) → loadCode table ≡ 0 → wholeRows (netOf table) objects ≡ true → registerCode (netOf table) (kindsIn (netOf table) objects) ≡ 0 → maxRecord ≤ room
       → number (startAnswer table objects room) ≡ 0
   -- and 61 is not the answer where as many bytes are lent
   pub start-fits : (table objects : List ℕ) (room : ℕ) → maxRecord ≤ room → number (startAnswer table objects room) ≡ 61 → ⊥
