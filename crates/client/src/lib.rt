@@ -1,5 +1,6 @@
 // The functions of the marking client, for C: numbers and byte slices, the trail held in lent bytes, which are its record.
-// Above all other libraries. Any bytes are taken or refused, 41 to 47 before a call's own numbers and 61 last.
+// Above all other libraries: each is one call of `client_start`, `client_trail`, `client_lines` or `client_numbers`. Any bytes are taken or
+// refused, 41 to 47 before a call's own numbers and 61 last.
 
 ghost use mathlib.Core.Path.{_≡_};
 ghost use mathlib.Core.List.{[]};

@@ -32,7 +32,7 @@ use Rattle.checkpoint.specs.Calls as list
 use Rattle.checkpoint.specs.Demand.{plainRecord, plainSaves, Demand3}
 use Rattle.checkpoint.specs.Demand as Demand
 use Rattle.checkpoint.proofs.Demands.{Last, restores-at, last-ask, last-save, back, demand-three}
-use Rattle.client_answers.specs.Answers.{packed, number, wrote}
+use Rattle.client_answers.specs.Answers.{packed, number}
 use Rattle.client_check.specs.Objects.{objectsIn}
 use Rattle.client_calls.specs.Client.{startAnswer, askAnswer, askLeaves, restoreAnswer, saveAnswer, saveLeaves}
 use Rattle.client_calls.specs.CallList.{Call, event, close, save, restore, answer, taken, wroteBy, next, Given, answers, trail, written, Fair, Undamaged, meant, plainAnswers, startedBy, FairList, FromC}

@@ -4,9 +4,7 @@ use mathlib.Core.Bool.{Bool}
 use mathlib.Core.Path.{_≡_}
 use mathlib.Core.List.{List, []}
 use native.Mathlib.Omega.{arith}
-use native.Mathlib.Decide.{ℕ-discrete}
 use lib.ListN.{length}
-use borrow.Author.Tests.{eq-eqb, ne-eqb}
 use Rattle.words.proofs.Refusals.{first-le}
 use Rattle.net.proofs.Promise.{promise}
 use Rattle.replay.specs.Record.{tableIn}
@@ -18,10 +16,10 @@ use Rattle.lines.specs.Answer.{lineCode}
 use Rattle.report.specs.TrailLines.{placeLineAt, actLineAt, jumpLineAt}
 use Rattle.report.specs.Lengths.{maxLine, HasRoom}
 use Rattle.report.proofs.LengthLaws.{has-room}
-use Rattle.client_answers.specs.Answers.{number}
+use Rattle.client_answers.specs.Answers.{number, wrote}
 use Rattle.client_calls.specs.Writing.{writeAnswer}
 use Rattle.client_calls.specs.MaxLine.{MaxLine}
-use Rattle.client_check.proofs.Checks.{restore-few}
+use Rattle.client_calls.proofs.MaxRecordHolds.{own-fits}
 
 -- 41 to 47, or there is room
 room : (b lent : List ℕ) → maxLine ≤ length lent → restoreCode b ≡ 0 → HasRoom b lent
@@ -30,11 +28,7 @@ room b lent h z = has-room b (promise (tableIn b) (restored-loads b z)) (restore
 
 fits : (b : List ℕ) (tests : List (Bool × ℕ)) (x lent : List ℕ) → (restoreCode b ≡ 0 → lineCode tests x lent ≤ 52) → number (writeAnswer b tests x lent) ≡ 61 → ⊥
 unfolding writeAnswer
-fits b tests x lent few e = go (ℕ-discrete (restoreCode b) 0)
-  where
-    go : Dec (restoreCode b ≡ 0) → ⊥
-    go (yes z) = omega (arith, few z, rw (eq-eqb (restoreCode b) 0 z) at e)
-    go (no n) = omega (arith, restore-few b, rw (ne-eqb (restoreCode b) 0 n) at e)
+fits b tests x lent few = own-fits b (wrote (lineCode tests x lent) (length x)) (λ z e. omega (arith, few z, e))
 
 pub max-line : MaxLine
 unfolding placeCode actCode pairCode

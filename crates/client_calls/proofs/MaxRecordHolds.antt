@@ -20,12 +20,24 @@ use Rattle.checkpoint.specs.Calls.{saveCode}
 use Rattle.checkpoint.specs.Take.{takeCode}
 use Rattle.checkpoint.proofs.Restored.{restored-le}
 use Rattle.checkpoint.proofs.Demands.{roomy}
-use Rattle.client_answers.specs.Answers.{number}
-use Rattle.client_check.proofs.Checks.{restore-few}
+use Rattle.client_answers.specs.Answers.{number, wrote}
+use Rattle.client_check.specs.OnTrail.{onTrail}
 use Rattle.client_calls.specs.Client.{beginCode, saveAnswer}
 use Rattle.client_calls.specs.MaxRecord.{MaxRecord}
-use Rattle.client_calls.proofs.Numbers.{start-number, start-le, save-number, restore-number}
+use Rattle.client_calls.proofs.Numbers.{start-number, start-le, restore-number}
 use Rattle.replay.specs.Limits.{maxRecord}
+
+restore-few : (b : List ℕ) → restoreCode b ≤ 47
+unfolding restoreCode
+restore-few b = first-le 47 (restoreTests b) (omega arith)
+
+-- 61 is no answer to a call on a lent trail where it is not the call's own: 41 to 47 come before
+pub own-fits : (b : List ℕ) (own : ℕ) → (restoreCode b ≡ 0 → number own ≡ 61 → ⊥) → number (onTrail b own) ≡ 61 → ⊥
+own-fits b own h e = go (ℕ-discrete (restoreCode b) 0)
+  where
+    go : Dec (restoreCode b ≡ 0) → ⊥
+    go (yes z) = h z (rw (eq-eqb (restoreCode b) 0 z) at e)
+    go (no n) = omega (arith, restore-few b, rw (ne-eqb (restoreCode b) 0 n) at e)
 
 -- restoring: 41 to 47, or there is room
 module _ (r : List ℕ) (room : ℕ) (h : maxRecord ≤ room) where
@@ -73,14 +85,9 @@ pub room-saves : (b : List ℕ) (room : ℕ) → length b ≤ room → saveCode 
 unfolding saveCode
 room-saves b room h = rw (le-ltb room (length b) h)
 
-module _ (b : List ℕ) (room : ℕ) (h : maxRecord ≤ room) where
-  saves-fit : number (saveAnswer b room) ≡ 61 → ⊥
-  unfolding saveAnswer
-  saves-fit e = go (ℕ-discrete (restoreCode b) 0)
-    where
-      go : Dec (restoreCode b ≡ 0) → ⊥
-      go (yes z) = omega (arith, save-number b z room, room-saves b room (omega (arith, restored-le b z)))
-      go (no n) = omega (arith, restore-few b, rw (ne-eqb (restoreCode b) 0 n) at e)
+saves-fit : (b : List ℕ) (room : ℕ) → maxRecord ≤ room → number (saveAnswer b room) ≡ 61 → ⊥
+unfolding saveAnswer
+saves-fit b room h = own-fits b (wrote (saveCode b room) (length b)) (λ z e. omega (arith, e, room-saves b room (omega (arith, restored-le b z))))
 
 pub max-record : MaxRecord
 max-record = record {

@@ -8,22 +8,16 @@ use native.Mathlib.Omega.{arith}
 use lib.ListN.{length, getD}
 use borrow.Author.Tests.{eq-eqb, ne-eqb}
 use Rattle.words.specs.Lists.{pick}
-use Rattle.words.proofs.Refusals.{first-le}
 use Rattle.net.proofs.Promise.{table-size}
 use Rattle.replay.specs.Record.{tableIn}
 use Rattle.replay.specs.Ready.{Ready}
-use Rattle.checkpoint.specs.Restore.{restoreTests, restoreCode, restoreSecond}
+use Rattle.checkpoint.specs.Restore.{restoreCode, restoreSecond}
 use Rattle.checkpoint.specs.Take.{Opened}
 use Rattle.checkpoint.proofs.Restored.{restore-intact, restored-le}
 use Rattle.client_answers.specs.Answers.{packed}
 use Rattle.client_check.specs.OnTrail.{onTrail, leftBy}
 use Rattle.client_check.specs.Checked.{Checked}
 use Rattle.replay.specs.Limits.{maxRecord}
-
--- 41 to 47 are the numbers of the check
-pub restore-few : (b : List ℕ) → restoreCode b ≤ 47
-unfolding restoreCode
-restore-few b = first-le 47 (restoreTests b) (omega arith)
 
 -- a trail that is taken has no second number
 no-second : (b : List ℕ) → restoreCode b ≡ 0 → restoreSecond b ≡ 0
