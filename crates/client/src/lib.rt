@@ -1,7 +1,10 @@
 // The functions of the marking client, for C: numbers and byte slices, the trail held in lent bytes, which are its record.
-// Above all other libraries: each is one call of `client_start`, `client_trail`, `client_lines` or `client_numbers`. Any bytes are taken or
-// refused, 41 to 47 before a call's own numbers and 61 last.
+// Above all other libraries: each is one call of `client_start`, `client_trail` or `client_write`. Any bytes are taken or refused,
+// 41 to 47 before a call's own numbers and 61 last.
 
+use client_write::Line;
+use client_write::write_numbers;
+use client_write::write_text;
 ghost use mathlib.Core.Path.{_≡_};
 ghost use mathlib.Core.List.{[]};
 ghost use lib.ListN.{length};
@@ -74,7 +77,7 @@ pub extern "C" fn conform_trail_line(trail: &[u8], line: &mut [u8]) -> u64
     ensures { λ r. ⌜ r ≡ writeAnswer (now (trail .entry)) [] (trailLineAt (now (trail .entry))) (now (line .entry)) ⌝ }
     ensures { λ _. ⌜ now (line .exit) ≡ writeLeaves (now (trail .entry)) [] (trailLineAt (now (trail .entry))) (now (line .entry)) ⌝ }
 {
-    client_lines::trail_line(trail, line)
+    write_text(trail, Line::Trail, line)
 }
 
 // The line of a place: 51, 61, or the line.
@@ -83,7 +86,7 @@ pub extern "C" fn conform_place_line(trail: &[u8], place: u32, line: &mut [u8]) 
     ensures { λ r. ⌜ r ≡ writeAnswer (now (trail .entry)) (placeTests (now (trail .entry)) place) (placeLineAt (now (trail .entry)) place) (now (line .entry)) ⌝ }
     ensures { λ _. ⌜ now (line .exit) ≡ writeLeaves (now (trail .entry)) (placeTests (now (trail .entry)) place) (placeLineAt (now (trail .entry)) place) (now (line .entry)) ⌝ }
 {
-    client_lines::place_line(trail, place, line)
+    write_text(trail, Line::Place(place), line)
 }
 
 // The line of an activity: 52, 61, or the line.
@@ -92,7 +95,7 @@ pub extern "C" fn conform_act_line(trail: &[u8], activity: u32, line: &mut [u8])
     ensures { λ r. ⌜ r ≡ writeAnswer (now (trail .entry)) (actTests (now (trail .entry)) activity) (actLineAt (now (trail .entry)) activity) (now (line .entry)) ⌝ }
     ensures { λ _. ⌜ now (line .exit) ≡ writeLeaves (now (trail .entry)) (actTests (now (trail .entry)) activity) (actLineAt (now (trail .entry)) activity) (now (line .entry)) ⌝ }
 {
-    client_lines::act_line(trail, activity, line)
+    write_text(trail, Line::Act(activity), line)
 }
 
 // The line of the jumps from one place to another: 51, 61, or the line, which is nothing where there are none.
@@ -101,7 +104,7 @@ pub extern "C" fn conform_jump_line(trail: &[u8], from: u32, to: u32, line: &mut
     ensures { λ r. ⌜ r ≡ writeAnswer (now (trail .entry)) (pairTests (now (trail .entry)) from to) (jumpLineAt (now (trail .entry)) from to) (now (line .entry)) ⌝ }
     ensures { λ _. ⌜ now (line .exit) ≡ writeLeaves (now (trail .entry)) (pairTests (now (trail .entry)) from to) (jumpLineAt (now (trail .entry)) from to) (now (line .entry)) ⌝ }
 {
-    client_lines::jump_line(trail, from, to, line)
+    write_text(trail, Line::Jump(from, to), line)
 }
 
 // The numbers of the trail's line: objects, events, jumps, transfers.
@@ -110,7 +113,7 @@ pub extern "C" fn conform_trail_counts(trail: &[u8], counts: &mut [u8]) -> u64
     ensures { λ r. ⌜ r ≡ writeAnswer (now (trail .entry)) [] (trailNumbers (now (trail .entry))) (now (counts .entry)) ⌝ }
     ensures { λ _. ⌜ now (counts .exit) ≡ writeLeaves (now (trail .entry)) [] (trailNumbers (now (trail .entry))) (now (counts .entry)) ⌝ }
 {
-    client_numbers::trail_counts(trail, counts)
+    write_numbers(trail, Line::Trail, counts)
 }
 
 // The numbers of a place's line: its number, TAKEN, IN, OUT.
@@ -119,7 +122,7 @@ pub extern "C" fn conform_place_counts(trail: &[u8], place: u32, counts: &mut [u
     ensures { λ r. ⌜ r ≡ writeAnswer (now (trail .entry)) (placeTests (now (trail .entry)) place) (placeNumbers (now (trail .entry)) place) (now (counts .entry)) ⌝ }
     ensures { λ _. ⌜ now (counts .exit) ≡ writeLeaves (now (trail .entry)) (placeTests (now (trail .entry)) place) (placeNumbers (now (trail .entry)) place) (now (counts .entry)) ⌝ }
 {
-    client_numbers::place_counts(trail, place, counts)
+    write_numbers(trail, Line::Place(place), counts)
 }
 
 // The numbers of an activity's line: its number, FIRED, MOVED, JUMPS.
@@ -128,7 +131,7 @@ pub extern "C" fn conform_act_counts(trail: &[u8], activity: u32, counts: &mut [
     ensures { λ r. ⌜ r ≡ writeAnswer (now (trail .entry)) (actTests (now (trail .entry)) activity) (actNumbers (now (trail .entry)) activity) (now (counts .entry)) ⌝ }
     ensures { λ _. ⌜ now (counts .exit) ≡ writeLeaves (now (trail .entry)) (actTests (now (trail .entry)) activity) (actNumbers (now (trail .entry)) activity) (now (counts .entry)) ⌝ }
 {
-    client_numbers::act_counts(trail, activity, counts)
+    write_numbers(trail, Line::Act(activity), counts)
 }
 
 // The numbers of a pair's line: the two places and the jump count, also where that is 0.
@@ -137,5 +140,5 @@ pub extern "C" fn conform_jump_count(trail: &[u8], from: u32, to: u32, counts: &
     ensures { λ r. ⌜ r ≡ writeAnswer (now (trail .entry)) (pairTests (now (trail .entry)) from to) (pairNumbers (now (trail .entry)) from to) (now (counts .entry)) ⌝ }
     ensures { λ _. ⌜ now (counts .exit) ≡ writeLeaves (now (trail .entry)) (pairTests (now (trail .entry)) from to) (pairNumbers (now (trail .entry)) from to) (now (counts .entry)) ⌝ }
 {
-    client_numbers::jump_count(trail, from, to, counts)
+    write_numbers(trail, Line::Jump(from, to), counts)
 }
