@@ -1,38 +1,29 @@
 // The functions of the marking client, for C: numbers and byte slices, the trail held in lent bytes, which are its record.
-// Above all other libraries. Any bytes are taken or refused, 41 to 47 before a call's own numbers and 61 last.
+// Above all other libraries: each is one call of `client_start`, `client_trail` or `client_write`. Any bytes are taken or refused,
+// 41 to 47 before a call's own numbers and 61 last.
 
-use crate::calls::begin;
-use crate::calls::put_close;
-use crate::calls::put_event;
-use crate::calls::put_save;
-use client_answers::pack;
-use client_check::check::checked;
 use client_write::Line;
 use client_write::write_numbers;
 use client_write::write_text;
-use net::NET_WORDS;
 ghost use mathlib.Core.Path.{_≡_};
 ghost use mathlib.Core.List.{[]};
 ghost use lib.ListN.{length};
+ghost use Rattle.replay.specs.Plain.{askEvent};
 ghost use Rattle.replay_close.specs.Answers.{askClose};
 ghost use Rattle.replay_counts.specs.Reads.{placeTests, actTests, pairTests};
 ghost use Rattle.checkpoint.specs.Take.{takeBytes};
 ghost use Rattle.report.specs.TrailLines.{trailLineAt, placeLineAt, actLineAt, jumpLineAt};
 ghost use Rattle.client_check.specs.Objects.{objectsIn};
+ghost use Rattle.client_calls.specs.Client.{loadAnswer, startAnswer, startLeaves, askAnswer, askLeaves, restoreAnswer, saveAnswer, saveLeaves};
+ghost use Rattle.client_calls.specs.Writing.{writeAnswer, writeLeaves};
 ghost use Rattle.client_counts.specs.Numbers.{trailNumbers, placeNumbers, actNumbers, pairNumbers};
-ghost use Rattle.client.specs.Client.{loadAnswer, startAnswer, startLeaves, askAnswer, askLeaves, restoreAnswer, saveAnswer, saveLeaves};
-ghost use Rattle.client_write.specs.Writing.{writeAnswer, writeLeaves};
-ghost use Rattle.replay.specs.Plain.{askEvent};
-
-mod calls;
 
 // Loads a table, to see whether it is taken: 1 to 9.
 #[no_mangle]
 pub extern "C" fn conform_load(table: &[u8]) -> u64
     ensures { λ r. ⌜ r ≡ loadAnswer (now (table .entry)) ⌝ }
 {
-    let mut t = [0u32; NET_WORDS];
-    pack(net::code(net_loader::load_fresh(table, &mut t)), 0)
+    client_start::load(table)
 }
 
 // Starts a trail: 1 to 9 of the table, 11 and 12 of the objects' kinds, and 61; or its record in front of the lent bytes.
@@ -41,12 +32,7 @@ pub extern "C" fn conform_start(table: &[u8], objects: &[u8], trail: &mut [u8]) 
     ensures { λ r. ⌜ r ≡ startAnswer (now (table .entry)) (now (objects .entry)) (length (now (trail .entry))) ⌝ }
     ensures { λ _. ⌜ now (trail .exit) ≡ startLeaves (now (table .entry)) (now (objects .entry)) (now (trail .entry)) ⌝ }
 {
-    let mut t = [0u32; NET_WORDS];
-    let refused = net::code(net_loader::load_fresh(table, &mut t));
-    if refused != 0 {
-        return pack(refused, 0);
-    }
-    begin(&t, table, objects, trail)
+    client_start::start(table, objects, trail)
 }
 
 // An event on a trail: 21 to 27, or carried out in its bytes.
@@ -55,12 +41,7 @@ pub extern "C" fn conform_event(trail: &mut [u8], activity: u32, objects: &[u8])
     ensures { λ r. ⌜ r ≡ askAnswer (now (trail .entry)) (askEvent activity (objectsIn (now (objects .entry)))) ⌝ }
     ensures { λ _. ⌜ now (trail .exit) ≡ askLeaves (now (trail .entry)) (askEvent activity (objectsIn (now (objects .entry)))) ⌝ }
 {
-    let mut t = [0u32; NET_WORDS];
-    let refused = checked(trail, &mut t);
-    if refused != 0 {
-        return refused;
-    }
-    put_event(trail, &t, activity, objects)
+    client_trail::event(trail, activity, objects)
 }
 
 // Closes a trail: 31, or carried out in its bytes.
@@ -69,12 +50,7 @@ pub extern "C" fn conform_close(trail: &mut [u8]) -> u64
     ensures { λ r. ⌜ r ≡ askAnswer (now (trail .entry)) askClose ⌝ }
     ensures { λ _. ⌜ now (trail .exit) ≡ askLeaves (now (trail .entry)) askClose ⌝ }
 {
-    let mut t = [0u32; NET_WORDS];
-    let refused = checked(trail, &mut t);
-    if refused != 0 {
-        return refused;
-    }
-    put_close(trail, &t)
+    client_trail::close(trail)
 }
 
 // Takes up a record: 41 to 47 and 61, or its bytes in front of the trail's.
@@ -83,12 +59,7 @@ pub extern "C" fn conform_restore(saved: &[u8], trail: &mut [u8]) -> u64
     ensures { λ r. ⌜ r ≡ restoreAnswer (now (saved .entry)) (length (now (trail .entry))) ⌝ }
     ensures { λ _. ⌜ now (trail .exit) ≡ takeBytes (now (saved .entry)) (now (trail .entry)) ⌝ }
 {
-    let r = checkpoint_restore::restore(saved, trail);
-    let refused = checkpoint::code(r);
-    if refused != 0 {
-        return pack(refused, checkpoint::second(r));
-    }
-    pack(0, saved.len() as u32)
+    client_start::restore(saved, trail)
 }
 
 // Puts down the record of a trail: 61, or in front of the lent bytes.
@@ -97,12 +68,7 @@ pub extern "C" fn conform_save(trail: &[u8], lent: &mut [u8]) -> u64
     ensures { λ r. ⌜ r ≡ saveAnswer (now (trail .entry)) (length (now (lent .entry))) ⌝ }
     ensures { λ _. ⌜ now (lent .exit) ≡ saveLeaves (now (trail .entry)) (now (lent .entry)) ⌝ }
 {
-    let mut t = [0u32; NET_WORDS];
-    let refused = checked(trail, &mut t);
-    if refused != 0 {
-        return refused;
-    }
-    put_save(trail, lent)
+    client_trail::save(trail, lent)
 }
 
 // The line of the whole trail: 61, or the line in front of the lent bytes.

@@ -9,7 +9,8 @@ use net::NetWords;
 ghost use mathlib.Core.Path.{_≡_};
 ghost use Rattle.replay.specs.Ready.{Ready};
 ghost use Rattle.lines.specs.Answer.{Writes};
-ghost use Rattle.client_write.specs.Writing.{lineTests, lineText, lineNumbers, writeAnswer, writeLeaves};
+ghost use Rattle.client_calls.specs.Writing.{writeAnswer, writeLeaves};
+ghost use Rattle.client_write.specs.Asked.{lineTests, lineText, lineNumbers};
 
 // Which line: that of the trail, of a place, of an activity, or of the jumps from one place to another.
 pub enum Line {

@@ -1,6 +1,6 @@
 -- Each line's numbers of the four by the function that writes it. Assumes nothing.
-use Rattle.client_write.specs.Writing.{lineNumbers}
-use Rattle.client_write.proofs.Written.{same-line}
+use Rattle.client_write.specs.Asked.{lineNumbers}
+use Rattle.client_write.proofs.SameLine.{same-line}
 use borrow.Author.Needs.{needs}
 use Rattle.client_write.proofs.put_numbers.Statement.{statement}
 use Rattle.client_write.proofs.put_numbers.Tie as tie

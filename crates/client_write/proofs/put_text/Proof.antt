@@ -1,6 +1,6 @@
 -- Each line of the four by the function that writes it. Assumes nothing.
-use Rattle.client_write.specs.Writing.{lineText}
-use Rattle.client_write.proofs.Written.{same-line}
+use Rattle.client_write.specs.Asked.{lineText}
+use Rattle.client_write.proofs.SameLine.{same-line}
 use borrow.Author.Needs.{needs}
 use Rattle.client_write.proofs.put_text.Statement.{statement}
 use Rattle.client_write.proofs.put_text.Tie as tie

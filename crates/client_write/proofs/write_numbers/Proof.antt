@@ -1,8 +1,8 @@
 -- A refused trail stops the call; else the answer is that of the writing. Assumes nothing.
 use Prim.Native.Nat.{ℕ}
 use mathlib.Core.List.{List}
-use Rattle.client_write.specs.Writing.{lineTests, lineNumbers}
-use Rattle.client_write.proofs.Written.{write-stops, write-goes}
+use Rattle.client_write.specs.Asked.{lineTests, lineNumbers}
+use Rattle.client_calls.proofs.Written.{write-stops, write-goes}
 use borrow.Author.Needs.{needs}
 use Rattle.client_write.proofs.write_numbers.Statement.{statement}
 use Rattle.client_write.proofs.write_numbers.Tie as tie

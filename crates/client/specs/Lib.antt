@@ -1,5 +1,0 @@
-pub mod Client
-pub mod Objects
-pub mod CallList
-pub mod MaxRecord
-pub mod MaxLine

@@ -1,0 +1,6 @@
+pub mod Written
+pub mod Numbers
+pub mod ObjectsHold
+pub mod MaxRecordHolds
+pub mod MaxLineHolds
+pub mod FromC

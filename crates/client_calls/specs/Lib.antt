@@ -1,0 +1,6 @@
+pub mod Client
+pub mod Writing
+pub mod Objects
+pub mod CallList
+pub mod MaxRecord
+pub mod MaxLine
