@@ -28,7 +28,7 @@ fn put_rows(trail: &mut [u8], t: &NetWords, activity: u32, rows: &[u8]) -> u64
     ensures { λ r. ⌜ (r ≡ packed (askCode (now (trail .entry)) (askEvent activity (wordsOf (now (rows .entry))))) 0) × (now (trail .exit) ≡ askBytes (now (trail .entry)) (askEvent activity (wordsOf (now (rows .entry))))) ⌝ }
 {
     pack(
-        event_code(replay_event::event::event(trail, t, activity, rows)),
+        event_code(replay_event::event(trail, t, activity, rows)),
         0,
     )
 }

@@ -71,7 +71,7 @@ fn step(
             let act = event.activity;
             let first = from + 8;
             let last = first + 4 * n;
-            replay_event::event::apply(rec, t, act, &window[first..last]);
+            replay_event::apply(rec, t, act, &window[first..last]);
             Outcome {
                 spot: Spot {
                     from: last,

@@ -7,8 +7,8 @@ use Rattle.replay.specs.State.{bump}
 use Rattle.replay_moves.proofs.Layouts.{counts-few}
 use Rattle.replay_event.proofs.Taken.{can-events, can-fired, event-counted}
 use borrow.Author.Needs.{needs}
-use Rattle.replay_event.proofs.event.take_event.Statement.{statement}
-use Rattle.replay_event.proofs.event.take_event.Tie as tie
+use Rattle.replay_event.proofs.take_event.Statement.{statement}
+use Rattle.replay_event.proofs.take_event.Tie as tie
 
 step-objects-requires : tie.Need-step-objects-requires
 step-objects-requires c κs = search needs

@@ -10,15 +10,15 @@ use Rattle.words.specs.Lists.{All}
 use denote.Enum.Declared.{tagOf}
 use Rattle.replay.specs.Calls.{askCode}
 use Rattle.replay_event.specs.Answers.{eventAnswerCode}
-use Rattle.replay_event.specs.declared.event.EventAnswer.{EventAnswer}
-use Rattle.replay_event.specs.declared.event.EventAnswer.the-variants.{Taken, Closed, Full, Activity, Number, Object, Kind, TwoOfKind}
-use Rattle.replay_event.proofs.event.EventAnswer.{the-type}
+use Rattle.replay_event.specs.declared.EventAnswer.{EventAnswer}
+use Rattle.replay_event.specs.declared.EventAnswer.the-variants.{Taken, Closed, Full, Activity, Number, Object, Kind, TwoOfKind}
+use Rattle.replay_event.proofs.EventAnswer.{the-type}
 use Rattle.replay.proofs.Calls.{code-is, bytes-taken, bytes-refused}
 use Rattle.replay_event.proofs.Taken.{can-take}
 use Rattle.replay_objects.proofs.RecordLaws.{ready-contents, ready-bytes}
 use borrow.Author.Needs.{needs}
-use Rattle.replay_event.proofs.event.event.Statement.{statement}
-use Rattle.replay_event.proofs.event.event.Tie as tie
+use Rattle.replay_event.proofs.event.Statement.{statement}
+use Rattle.replay_event.proofs.event.Tie as tie
 use Rattle.replay.specs.Plain.{askEvent}
 
 -- the tests refused nothing

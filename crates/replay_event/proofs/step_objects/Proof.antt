@@ -16,8 +16,8 @@ use Rattle.replay_moves.proofs.Begins.{walk-start}
 use Rattle.replay_moves.proofs.Layouts.{placed-at}
 use Rattle.replay_moves.proofs.Walk.{sum-start, register-in, register-kind, can-add-sum, can-move}
 use Rattle.replay_event.proofs.Steps.{Stepping, step-turn, step-end}
-use Rattle.replay_event.proofs.event.step_objects.Statement.{statement}
-use Rattle.replay_event.proofs.event.step_objects.Tie as tie
+use Rattle.replay_event.proofs.step_objects.Statement.{statement}
+use Rattle.replay_event.proofs.step_objects.Tie as tie
 
 abbrev Inv-loop : tie.InvT-loop
 Inv-loop rec₀ t lay act objs n done₀ jumps₀ rec done jumps =

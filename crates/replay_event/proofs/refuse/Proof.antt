@@ -13,8 +13,8 @@ use Rattle.replay.specs.Calls.{stateAt}
 use Rattle.replay_moves.proofs.Layouts.{words-few, closed-in, closed-read}
 use Rattle.replay_event.proofs.Asked.{count-in, events-read}
 use borrow.Author.Needs.{needs}
-use Rattle.replay_event.proofs.event.refuse.Statement.{statement}
-use Rattle.replay_event.proofs.event.refuse.Tie as tie
+use Rattle.replay_event.proofs.refuse.Statement.{statement}
+use Rattle.replay_event.proofs.refuse.Tie as tie
 
 closed : (c : tie.Then1) → c .before .get-word .result ≡ stateAt (c .before .before .before .before .args .rec .now) .closed
 closed c = c .before .get-word .ensures ∙ closed-read _ _ _ (c .before .before .before .before .pre .0) (c .before .before .before .before .pre .1)

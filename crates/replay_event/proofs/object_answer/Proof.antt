@@ -1,8 +1,8 @@
 -- `object_answer` meets its contract: each number has its answer, and there is no other. Assumes nothing.
 use mathlib.Core.Path.{sym}
 use native.Mathlib.Omega.{arith}
-use Rattle.replay_event.proofs.event.object_answer.Statement.{statement}
-use Rattle.replay_event.proofs.event.object_answer.Tie as tie
+use Rattle.replay_event.proofs.object_answer.Statement.{statement}
+use Rattle.replay_event.proofs.object_answer.Tie as tie
 
 returns : tie.Need-returns
 returns c = sym (c .match .keys1)

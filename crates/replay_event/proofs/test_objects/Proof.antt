@@ -9,8 +9,8 @@ use Rattle.net.specs.Held.{netIn}
 use Rattle.replay.specs.Plain.{objectTests}
 use Rattle.replay.specs.Calls.{stateAt}
 use Rattle.replay_event.proofs.Asked.{few-objects, object-code, register-fits, register-words, register-known}
-use Rattle.replay_event.proofs.event.test_objects.Statement.{statement}
-use Rattle.replay_event.proofs.event.test_objects.Tie as tie
+use Rattle.replay_event.proofs.test_objects.Statement.{statement}
+use Rattle.replay_event.proofs.test_objects.Tie as tie
 
 mul-from : tie.Need-mul-from
 mul-from c = let s = c .before .before .before in omega (arith, register-fits _ _ _ (s .pre .ready) (s .pre .lay))

@@ -7,8 +7,8 @@ use Rattle.replay_objects.proofs.RecordLaws.{ready-contents, ready-bytes}
 use Rattle.replay.proofs.Calls.{code-is, bytes-taken}
 use Rattle.replay_event.proofs.Taken.{can-take}
 use borrow.Author.Needs.{needs}
-use Rattle.replay_event.proofs.event.apply.Statement.{statement}
-use Rattle.replay_event.proofs.event.apply.Tie as tie
+use Rattle.replay_event.proofs.apply.Statement.{statement}
+use Rattle.replay_event.proofs.apply.Tie as tie
 use Rattle.replay.specs.Plain.{askEvent}
 
 moving : (c : tie.After-read-layout) → let s = c .before .before .before .before in Moving (s .args .t .now) (s .args .rec .now) (c .read-layout .result) (s .args .act) (wordsOf (s .args .objs .now))
