@@ -18,7 +18,7 @@ use Rattle.net.proofs.IndexLaws.{arc-has}
 use Rattle.replay.specs.Plain.{objectKinds, objectTests}
 use Rattle.replay.specs.Record.{counts, contents, encode, tableIn, stateIn}
 use Rattle.replay.specs.Calls.{netAt, stateAt}
-use Rattle.replay_objects.specs.Offsets.{layoutOf}
+use Rattle.replay_objects.specs.Offsets.{layoutOf, eventsAt, jumpsAt}
 use Rattle.replay.specs.Ready.{Ready, KnownKinds}
 use Rattle.replay_event.specs.Answers.{ObjectCode, Counted, Moving}
 use Rattle.replay_objects.specs.declared.layout.Layout.{Layout}
@@ -45,8 +45,8 @@ module _ (w b : List ℕ) (l : Layout) (R : Ready w b) (e : l ≡ layoutOf (netI
   pub count-in : (i : ℕ) → i < 3 + 2 * netIn w .acts → l .counts + i < length (wordsOf b)
   count-in i h = omega (arith, words-size w b l R e, placed .pairs-at)
 
-  pub events-read : getD (wordsOf b) (l .counts + 1) 0 ≡ stateAt b .events
-  events-read = ap (λ (v : List ℕ). getD v (l .counts + 1) 0) (ready-words w b R) ∙ get-events (netIn w) (tableIn b) l (stateAt b) placed
+  pub events-read : getD (wordsOf b) (eventsAt l) 0 ≡ stateAt b .events
+  events-read = ap (λ (v : List ℕ). getD v (eventsAt l) 0) (ready-words w b R) ∙ get-events (netIn w) (tableIn b) l (stateAt b) placed
 
   -- the register's bytes, and the kinds that they hold
   pub register-fits : (4 * l .register ≤ 4 * l .positions) × (4 * l .positions ≤ length b) × (length b ≤ maxRecord)
@@ -86,7 +86,7 @@ module _ (w b : List ℕ) (l : Layout) (a : ℕ) (os : List ℕ) (M : Moving w b
   kind-is i h = map-at (λ (o : ℕ). getD (stateAt b .kinds) o 0) 0 0 os i h
 
   -- the jumps of the activity are one of the counts
-  pub own-in : (l .counts + (4 + 2 * a) < l .pairs) × (l .pairs ≤ maxWords)
+  pub own-in : (jumpsAt l a < l .pairs) × (l .pairs ≤ maxWords)
   own-in =
       (omega (arith, M .counted .act-in, laid .pairs-at), omega (arith, words-size w b l (M .counted .ready) (M .counted .lay), words-few w b l (M .counted .ready) (M .counted .lay)))
 

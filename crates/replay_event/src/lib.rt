@@ -7,6 +7,11 @@ use replay_moves::add;
 use replay_moves::add_one;
 use replay_moves::move_object;
 use replay_objects::layout::Layout;
+use replay_objects::layout::closed_at;
+use replay_objects::layout::events_at;
+use replay_objects::layout::fired_at;
+use replay_objects::layout::get_kind;
+use replay_objects::layout::jumps_at;
 use replay_objects::layout::read_layout;
 use replay_objects::objects::refuse_objects;
 ghost use mathlib.Core.Path.{_≡_};
@@ -69,10 +74,10 @@ fn refuse(rec: &[u8], t: &NetWords, lay: Layout, act: usize, objs: &[u8]) -> Eve
     requires { ⌜ lay ≡ layoutOf (netIn (now t)) (now rec) ⌝ }
     ensures code { λ r. ⌜ eventAnswerCode r ≡ answerS (netIn (now (t .entry))) (stateAt (now (rec .entry))) (askEvent act (wordsOf (now (objs .entry)))) ⌝ }
 {
-    if words::get_word(rec, lay.counts) != 0 {
+    if words::get_word(rec, closed_at(lay)) != 0 {
         return EventAnswer::Closed;
     }
-    if 1000000 <= words::get_word(rec, lay.counts + 1) {
+    if 1000000 <= words::get_word(rec, events_at(lay)) {
         return EventAnswer::Full;
     }
     if net_lookup::acts(t) <= act {
@@ -94,13 +99,13 @@ fn step_objects(rec: &mut [u8], t: &NetWords, lay: Layout, act: usize, objs: &[u
     let mut jumps = 0u32;
     while done < n {
         let o = words::wide(words::get_word(objs, done));
-        let k = words::wide(words::get_behind(rec, lay.register, o));
+        let k = words::wide(get_kind(rec, lay, o));
         let inp = net_lookup::input(t, act, k);
         let out = net_lookup::output(t, act, k) as u32;
         jumps += move_object(rec, lay, o, inp, out);
         done += 1;
     }
-    add(rec, lay.counts + (4 + 2 * act), jumps);
+    add(rec, jumps_at(lay, act), jumps);
 }
 
 // An event to which none of 21 to 27 applies is carried out and counted.
@@ -109,8 +114,8 @@ fn take_event(rec: &mut [u8], t: &NetWords, lay: Layout, act: usize, objs: &[u8]
     ensures { λ _. ⌜ wordsOf (now (rec .exit)) ≡ recordWords (tableIn (now (rec .entry))) (afterEvent (netIn (now (t .entry))) (stateAt (now (rec .entry))) (eventOf act (wordsOf (now (objs .entry))))) ⌝ }
 {
     step_objects(rec, t, lay, act, objs);
-    add_one(rec, lay.counts + 1);
-    add_one(rec, lay.counts + (3 + 2 * act));
+    add_one(rec, events_at(lay));
+    add_one(rec, fired_at(lay, act));
 }
 
 // Carries out an event to which none of 21 to 27 applies, as the caller has found; it is not tested again.

@@ -1,7 +1,7 @@
 -- `step_objects` meets its contract: with the sum of the jumps added, the record's numbers are those of a state from which the objects left lead to the state sought. Assumes nothing.
 use borrow.Author.Needs.{needs}
 use Prim.Native.Nat.{ℕ, _+_, _≤_, _<_, _-_}
-use mathlib.Core.Path.{_≡_, refl, ap, _∙_}
+use mathlib.Core.Path.{_≡_, refl, sym, ap, subst, _∙_}
 use native.Mathlib.Omega.{arith}
 use lib.ListN.{length, getD, drop}
 use Rattle.words.specs.Words.{wordsOf}
@@ -11,6 +11,7 @@ use Rattle.replay.specs.Plain.{legs, eventOf}
 use Rattle.replay.specs.State.{actJumps, afterLegs}
 use Rattle.replay.specs.Record.{tableIn}
 use Rattle.replay.specs.Calls.{stateAt}
+use Rattle.replay_moves.specs.Moves.{raise, CanAdd}
 use Rattle.replay_event.proofs.Asked.{few-objects, object-in, own-kind-in, own-kind-taken, inp-in, out-in, own-in}
 use Rattle.replay_moves.proofs.Begins.{walk-start}
 use Rattle.replay_moves.proofs.Layouts.{placed-at}
@@ -43,7 +44,7 @@ kind-at c =
     let s = c .before .before .before .before .before .before .before .before .before in
     let l = c .before .before .before .before .before .before .loop in
     let o = c .before .before .before in
-    c .wide2 .ensures ∙ c .before .get-behind .ensures
+    c .wide2 .ensures ∙ c .before .get-kind .ensures
     ∙ register-kind _ _ _ (8001025 + l .done) _ _ _ _ (l .inv .3 .sum) (stateAt (s .args .rec .now) .kinds) (l .inv .3 .same) (o .wide .result) (known-at o) ∙ ap (λ (x : ℕ). getD (stateAt (s .args .rec .now) .kinds) x 0) (object-at o)
 
 -- its places are known
@@ -62,8 +63,8 @@ get-word-requires c κs = inside c
 wide-requires : tie.Need-wide-requires Inv-loop μ-loop
 wide-requires c κs = search needs
 
-get-behind-requires : tie.Need-get-behind-requires Inv-loop μ-loop
-get-behind-requires c κs = let l = c .before .before .before .before .loop in register-in _ _ _ (8001025 + l .done) _ _ _ _ (l .inv .3 .sum) _ (known-at (c .before))
+get-kind-requires : tie.Need-get-kind-requires Inv-loop μ-loop
+get-kind-requires c κs = let l = c .before .before .before .before .loop in register-in _ _ _ (8001025 + l .done) _ _ _ _ (l .inv .3 .sum) _ (known-at (c .before))
 
 wide-requires-2 : tie.Need-wide-requires-2 Inv-loop μ-loop
 wide-requires-2 c κs = search needs
@@ -101,24 +102,18 @@ loop-again c = let s = c .before .before .before .before .before .before .before
       (step-turn _ _ _ (8001025 + l .done) _ _ (wordsOf (s .args .objs .now)) _ _ _ (l .done) (l .inv .3) (s .pre .counted .act-in) (8001025 + (l .done + 1)) (c .before .before .before .before .before .before .wide2 .result) h (kind-at (c .before .before .before .before .before .before)) (object-in _ _ _ _ _ (s .pre) (l .done) h) (rw (i .input .ensures) at (inp-at i)) (rw (o .output .ensures) at (out-at o)) (omega arith)),
 )
 
-mul-add : tie.Need-mul-add Inv-loop μ-loop
-mul-add c = omega (arith, own-in _ _ _ _ _ (c .before .before .before .before .before .pre))
-
-add-add : tie.Need-add-add Inv-loop μ-loop
-add-add c = omega (arith, own-in _ _ _ _ _ (c .before .before .before .before .before .pre))
-
-add-add-2 : tie.Need-add-add-2 Inv-loop μ-loop
-add-add-2 c = omega (arith, own-in _ _ _ _ _ (c .before .before .before .before .before .before .pre))
+jumps-at-requires : tie.Need-jumps-at-requires Inv-loop μ-loop
+jumps-at-requires c κs = omega (arith, own-in _ _ _ _ _ (c .before .before .before .before .before .pre))
 
 add-requires : tie.Need-add-requires Inv-loop μ-loop
 add-requires c κs = let s = c .before .before .before .before .before .before in let l = c .before .before .before .loop in
-    can-add-sum _ _ _ (8001025 + l .done) _ _ _ _ (l .inv .3 .sum) (omega (arith, l .inv .0, few-objects _ _ _ _ _ (s .pre .counted)))
+    subst (λ (i : ℕ). CanAdd i (l .jumps) (wordsOf (l .rec))) (sym (c .jumps-at .ensures)) (can-add-sum _ _ _ (8001025 + l .done) _ _ _ _ (l .inv .3 .sum) (omega (arith, l .inv .0, few-objects _ _ _ _ _ (s .pre .counted))))
 
 same-length : tie.Need-same-length Inv-loop μ-loop
 same-length c = search needs
 
 returns : tie.Need-returns Inv-loop μ-loop
-returns c = c .before .before .add .ensures ∙ step-end _ _ _ _ _ _ (wordsOf (c .before .before .before .before .before .before .before .before .before .args .objs .now)) _ _ _ (c .before .before .before .before .before .before .loop .done) (c .before .before .before .before .before .before .loop .inv .3) (c .before .before .before .before .before .before .before .before .before .pre .counted .act-in) (omega (arith, length-words (c .before .before .before .before .before .before .before .before .before .args .objs .now), c .before .before .before .before .before .loop-test .left))
+returns c = c .before .before .add .ensures ∙ ap (λ (i : ℕ). raise (wordsOf (c .before .before .before .before .before .before .loop .rec)) i (c .before .before .before .before .before .before .loop .jumps)) (c .before .before .before .jumps-at .ensures) ∙ step-end _ _ _ _ _ _ (wordsOf (c .before .before .before .before .before .before .before .before .before .args .objs .now)) _ _ _ (c .before .before .before .before .before .before .loop .done) (c .before .before .before .before .before .before .loop .inv .3) (c .before .before .before .before .before .before .before .before .before .pre .counted .act-in) (omega (arith, length-words (c .before .before .before .before .before .before .before .before .before .args .objs .now), c .before .before .before .before .before .loop-test .left))
 
 pub step-objects-spec : {M : Type 1} → statement M
 step-objects-spec =
@@ -129,7 +124,7 @@ step-objects-spec =
     loop-holds
     get-word-requires
     wide-requires
-    get-behind-requires
+    get-kind-requires
     wide-requires-2
     input-requires
     output-requires
@@ -139,9 +134,7 @@ step-objects-spec =
     add-done
     loop-less
     loop-again
-    mul-add
-    add-add
-    add-add-2
+    jumps-at-requires
     add-requires
     same-length
     returns)

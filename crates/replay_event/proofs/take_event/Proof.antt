@@ -3,7 +3,9 @@ use mathlib.Core.Path.{ap, _∙_}
 use mathlib.Core.List.{List}
 use Prim.Native.Nat.{ℕ, _+_, _*_}
 use native.Mathlib.Omega.{arith}
+use Rattle.words.specs.Words.{wordsOf}
 use Rattle.replay.specs.State.{bump}
+use Rattle.replay_objects.specs.Offsets.{eventsAt, firedAt}
 use Rattle.replay_moves.proofs.Layouts.{counts-few}
 use Rattle.replay_event.proofs.Taken.{can-events, can-fired, event-counted}
 use borrow.Author.Needs.{needs}
@@ -13,42 +15,36 @@ use Rattle.replay_event.proofs.take_event.Tie as tie
 step-objects-requires : tie.Need-step-objects-requires
 step-objects-requires c κs = search needs
 
-add-add-one : tie.Need-add-add-one
-add-add-one c = let s = c .before .before .before .before .before .before .before .before in omega (arith, counts-few _ _ _ (s .pre .counted .ready) (s .pre .counted .lay), s .pre .counted .act-in)
+events-at-requires : tie.Need-events-at-requires
+events-at-requires c κs = let s = c .before .before .before .before .before .before .before in omega (arith, counts-few _ _ _ (s .pre .counted .ready) (s .pre .counted .lay), s .pre .counted .act-in)
 
 add-one-requires : tie.Need-add-one-requires
-add-one-requires c κs = rw (c .before .before .before .before .step-objects .ensures) (can-events _ _ _ _ _ (c .before .before .before .before .before .before .before .before .pre))
+add-one-requires c κs = rw (c .events-at .ensures, c .before .before .before .before .step-objects .ensures) (can-events _ _ _ _ _ (c .before .before .before .before .before .before .before .before .pre))
 
-mul-add-one : tie.Need-mul-add-one
-mul-add-one c = let s = c .before .before .before .before .before .before .before .before .before .before .before .before in omega (arith, counts-few _ _ _ (s .pre .counted .ready) (s .pre .counted .lay), s .pre .counted .act-in)
-
-add-add-one-2 : tie.Need-add-add-one-2
-add-add-one-2 c = let s = c .before .before .before .before .before .before .before .before .before .before .before .before in omega (arith, counts-few _ _ _ (s .pre .counted .ready) (s .pre .counted .lay), s .pre .counted .act-in)
-
-add-add-one-3 : tie.Need-add-add-one-3
-add-add-one-3 c = let s = c .before .before .before .before .before .before .before .before .before .before .before .before .before in omega (arith, counts-few _ _ _ (s .pre .counted .ready) (s .pre .counted .lay), s .pre .counted .act-in)
+fired-at-requires : tie.Need-fired-at-requires
+fired-at-requires c κs = let s = c .before .before .before .before .before .before .before .before .before .before .before .before in omega (arith, counts-few _ _ _ (s .pre .counted .ready) (s .pre .counted .lay), s .pre .counted .act-in)
 
 add-one-requires-2 : tie.Need-add-one-requires-2
-add-one-requires-2 c κs = rw (c .before .before .before .before .add-one .ensures, c .before .before .before .before .before .before .before .before .before .step-objects .ensures) (can-fired _ _ _ _ _ (c .before .before .before .before .before .before .before .before .before .before .before .before .before .pre))
+add-one-requires-2 c κs = rw (c .fired-at .ensures, c .before .before .before .before .add-one .ensures, c .before .before .before .before .before .events-at .ensures, c .before .before .before .before .before .before .before .before .before .step-objects .ensures) (can-fired _ _ _ _ _ (c .before .before .before .before .before .before .before .before .before .before .before .before .before .pre))
 
 same-length : tie.Need-same-length
 same-length c = search needs
 
 returns : tie.Need-returns
 returns c =
-    let s = c .before .before .before .before .before .before .before .before .before .before .before .before .before .before .before .before .args in
-    c .before .before .add-one2 .ensures ∙ ap (λ (v : List ℕ). bump v (s .lay .counts + (3 + 2 * s .act))) (c .before .before .before .before .before .before .before .add-one .ensures ∙ ap (λ (v : List ℕ). bump v (s .lay .counts + 1)) (c .before .before .before .before .before .before .before .before .before .before .before .before .step-objects .ensures)) ∙ event-counted _ _ _ _ _ (c .before .before .before .before .before .before .before .before .before .before .before .before .before .before .before .before .pre)
+    let s = c .before .before .before .before .before .before .before .before .before .before .before .before .before .before .before .before in
+    c .before .before .add-one2 .ensures ∙ ap (bump (wordsOf (c .before .before .before .before .before .before .before .add-one .last .0))) (c .before .before .before .fired-at .ensures)
+    ∙ ap (λ (v : List ℕ). bump v (firedAt (s .args .lay) (s .args .act))) (c .before .before .before .before .before .before .before .add-one .ensures ∙ ap (bump (wordsOf (c .before .before .before .before .before .before .before .before .before .before .before .before .step-objects .last .0))) (c .before .before .before .before .before .before .before .before .events-at .ensures) ∙ ap (λ (v : List ℕ). bump v (eventsAt (s .args .lay))) (c .before .before .before .before .before .before .before .before .before .before .before .before .step-objects .ensures))
+    ∙ event-counted _ _ _ _ _ (s .pre)
 
 pub take-event-spec : {M : Type 1} → statement M
 take-event-spec =
     tie.close
     (tie.spec
     step-objects-requires
-    add-add-one
+    events-at-requires
     add-one-requires
-    mul-add-one
-    add-add-one-2
-    add-add-one-3
+    fired-at-requires
     add-one-requires-2
     same-length
     returns)
