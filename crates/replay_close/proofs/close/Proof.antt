@@ -55,10 +55,12 @@ same-length-2 c = search needs
 returns-2 : tie.Need-returns-2
 returns-2 c = let s = c .before .before .before .before .before .before .before .before .before .before .before .before .before .before .before .before in let k = c .before .before .before .before .before .before .before in let l = c .before .before .before .before .before .before .before .before .before .before .before .before .before in
     let o : stateAt (s .args .rec .now) .closed ≡ 0 = sym (flag (c .before .before .before .before .before .before .before .before .before .before)) ∙ c .before .before .before .before .before .before .before .before .before .if1 .left in
-    let z : askCode (s .args .rec .now) askClose ≡ 0 = sym (code-is _ _ (s .pre) askClose) ∙ ap (λ (t : Bool). pick t 31 0) (not-eqb (stateAt (s .args .rec .now) .closed) 0 o) in
-    (sym z, bytes-taken _ _ (s .pre) askClose _ z (ready-bytes _ _ (s .pre) _ _
-    (c .before .before .put-word .ensures .words ∙ ap (λ (i : ℕ). set (wordsOf (k .sink-objects .last .0)) i 1) (c .before .before .before .closed-at2 .ensures) ∙ ap (λ (v : List ℕ). set v (closedAt (l .read-layout .result)) 1) (k .sink-objects .ensures) ∙ closed-numbers _ _ _ (s .pre) (l .read-layout .ensures) o)
-    (omega arith) (λ i. omega (arith, c .before .before .before .before .before .before .before .before .before .before .before .before .before .before .before .slice-known .given i)) (λ i. omega (arith, c .slice-known3 .given i))))
+    let z : askCode (s .args .rec .now) askClose ≡ 0 = sym (code-is _ _ (s .pre) askClose) ∙ ap (λ (t : Bool). pick t 31 0) (not-eqb (stateAt (s .args .rec .now) .closed) 0 o) in (
+      sym z,
+      bytes-taken _ _ (s .pre) askClose _ z (ready-bytes _ _ (s .pre) _ _
+          (c .before .before .put-word .ensures .words ∙ ap (λ (i : ℕ). set (wordsOf (k .sink-objects .last .0)) i 1) (c .before .before .before .closed-at2 .ensures) ∙ ap (λ (v : List ℕ). set v (closedAt (l .read-layout .result)) 1) (k .sink-objects .ensures) ∙ closed-numbers _ _ _ (s .pre) (l .read-layout .ensures) o)
+          (omega arith) (λ i. omega (arith, c .before .before .before .before .before .before .before .before .before .before .before .before .before .before .before .slice-known .given i)) (λ i. omega (arith, c .slice-known3 .given i))),
+    )
 
 pub close-spec : {M : Type 1} → statement M
 close-spec =
