@@ -1,4 +1,4 @@
--- The close, object by object: what is left to do, and the closed record. Assumes nothing.
+-- The close, object by object (`closers` are all of them): what is left to do, and the closed record. Assumes nothing.
 use Prim.Native.Nat.{ℕ, suc, _+_, _-_, _≤_, _<_}
 use mathlib.Core.Path.{_≡_, refl, ap, sym, _∙_, subst}
 use mathlib.Core.List.{List, _∷_, map}

@@ -27,7 +27,8 @@ pub enum CloseAnswer {
     AlreadyClosed,
 }
 
-// Every object jumps to its sink where it is not there, and is taken from it; the jumps are added once, behind the last object.
+// Every object that the close takes (`closers`: all of them) jumps to its sink where it is not there, and is taken from it; the jumps
+// are added once, behind the last object.
 fn sink_objects(rec: &mut [u8], t: &NetWords, lay: Layout)
     requires { ⌜ Ready (now t) (now rec) ⌝ }
     requires { ⌜ lay ≡ layoutOf (netIn (now t)) (now rec) ⌝ }

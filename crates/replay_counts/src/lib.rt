@@ -17,6 +17,7 @@ ghost use lib.ListN.{length, getD};
 ghost use lib.Dec.{eqb};
 ghost use Rattle.words.specs.Lists.{one, sumTo};
 ghost use Rattle.net.specs.Held.{netIn, Held};
+ghost use Rattle.replay.specs.Plain.{closerKinds};
 ghost use Rattle.replay.specs.State.{inputs, sunkOn, storedConsumed, storedPair, storedJumpsIn, storedJumpsOut, storedMoved, storedJumps, storedTransfers};
 ghost use Rattle.replay.specs.Calls.{stateAt};
 ghost use Rattle.replay.specs.Ready.{Ready};
@@ -152,10 +153,10 @@ fn sinks_on(rec: &[u8], t: &NetWords, q: usize, o: usize) -> u32
     1
 }
 
-// How many objects have the sink q.
+// How many of the objects that the close takes (`closers`: all of them) have the sink q.
 fn sunk_on(rec: &[u8], t: &NetWords, q: usize) -> u32
     requires { ⌜ Ready (now t) (now rec) ⌝ }
-    ensures { λ r. ⌜ (r ≡ sunkOn (netIn (now (t .entry))) (stateAt (now (rec .entry)) .kinds) q) × (r ≤ 1024) ⌝ }
+    ensures { λ r. ⌜ (r ≡ sunkOn (netIn (now (t .entry))) (closerKinds (stateAt (now (rec .entry)) .kinds)) q) × (r ≤ 1024) ⌝ }
 {
     let n = objects(rec, t);
     let mut sum = 0u32;
@@ -194,7 +195,7 @@ fn all_jumps(rec: &[u8], t: &NetWords) -> u32
     sum + last
 }
 
-// The transfers of the whole trail: MOVED of every activity, and once closed the objects.
+// The transfers of the whole trail: MOVED of every activity, and once closed the objects that the close takes (`closers`: all of them).
 fn transfers(rec: &[u8], t: &NetWords) -> u32
     requires { ⌜ Ready (now t) (now rec) ⌝ }
     ensures { λ r. ⌜ r ≡ storedTransfers (netIn (now (t .entry))) (stateAt (now (rec .entry))) ⌝ }

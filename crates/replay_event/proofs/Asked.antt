@@ -20,6 +20,7 @@ use Rattle.replay.specs.Record.{counts, contents, encode, tableIn, stateIn}
 use Rattle.replay.specs.Calls.{netAt, stateAt}
 use Rattle.replay_objects.specs.Offsets.{layoutOf, eventsAt, jumpsAt}
 use Rattle.replay.specs.Ready.{Ready, KnownKinds}
+use Rattle.replay.specs.Register.{kindsIn}
 use Rattle.replay_event.specs.Answers.{ObjectCode, Counted, Moving}
 use Rattle.replay_objects.specs.declared.layout.Layout.{Layout}
 use Rattle.replay.proofs.Encode.{fit-kinds}
@@ -52,7 +53,7 @@ module _ (w b : List ℕ) (l : Layout) (R : Ready w b) (e : l ≡ layoutOf (netI
   pub register-fits : (4 * l .register ≤ 4 * l .positions) × (4 * l .positions ≤ length b) × (length b ≤ maxRecord)
   register-fits = omega (arith, words-size w b l R e, words-few w b l R e, ready-length w b R, placed .positions-at, placed .counts-at, placed .pairs-at)
 
-  pub register-words : wordsOf (take (4 * l .positions - 4 * l .register) (drop (4 * l .register) b)) ≡ stateAt b .kinds
+  pub register-words : kindsIn (netIn w) (take (4 * l .positions - 4 * l .register) (drop (4 * l .register) b)) ≡ stateAt b .kinds
   unfolding encode stateAt
   register-words =
       let d = stateIn (netAt b) b in
@@ -65,7 +66,7 @@ module _ (w b : List ℕ) (l : Layout) (R : Ready w b) (e : l ≡ layoutOf (netI
       ∙ ap wordsOf (take-at (bytesOf (d .kinds)) rest _ m)
       ∙ words-of-bytes (d .kinds) (fit-kinds (netIn w) (ready-loaded w b R) (stateAt b) (ready-sound w b R))
 
-  pub register-known : KnownKinds (netIn w) (wordsOf (take (4 * l .positions - 4 * l .register) (drop (4 * l .register) b)))
+  pub register-known : KnownKinds (netIn w) (kindsIn (netIn w) (take (4 * l .positions - 4 * l .register) (drop (4 * l .register) b)))
   register-known = rw register-words (record { kind = λ o h. kind-of-in w b l R e o (omega (arith, placed .kinds-size)) })
 
 module _ (w b : List ℕ) (l : Layout) (a : ℕ) (os : List ℕ) (C : Counted w b l a os) where

@@ -165,7 +165,11 @@ fn fill(t: &NetWords, table: &[u8], objects: &[u8], out: &mut [u8])
 {
     let counts = counts_bytes(t);
     let pairs = pairs_bytes(t);
-    let lay = start_layout(t, table.len() / 4, replay_objects::register::objects(objects, t));
+    let lay = start_layout(
+        t,
+        table.len() / 4,
+        replay_objects::register::objects(objects, t),
+    );
     put_contents(out, table.len(), objects.len(), counts, pairs);
     copy_words(table, out, 10);
     copy_words(objects, out, lay.register);
