@@ -18,7 +18,7 @@ ghost use lib.Dec.{eqb};
 ghost use Rattle.words.specs.Lists.{one, sumTo};
 ghost use Rattle.net.specs.Held.{netIn, Held};
 ghost use Rattle.replay.specs.Plain.{closerKinds};
-ghost use Rattle.replay.specs.State.{inputs, sunkOn, storedConsumed, storedPair, storedJumpsIn, storedJumpsOut, storedMoved, storedJumps, storedTransfers};
+ghost use Rattle.replay.specs.State.{inputs, sunkOn, storedConsumed, storedJumpsIn, storedJumpsOut, storedMoved, storedJumps, storedTransfers};
 ghost use Rattle.replay.specs.Calls.{stateAt};
 ghost use Rattle.replay.specs.Ready.{Ready};
 ghost use Rattle.replay_counts.specs.Reads.{placeRead, placeCode, placeReadCode, actRead, actCode, actReadCode, pairRead, pairCode, pairReadCode, trailRead};

@@ -1,5 +1,5 @@
 -- Objects moved one after the other: what is left to do, from the record's own state on. Assumes nothing.
-use Prim.Native.Nat.{ℕ, _+_, _*_, _≤_, _<_}
+use Prim.Native.Nat.{ℕ, _+_, _≤_, _<_}
 use mathlib.Core.Path.{_≡_, refl, subst}
 use mathlib.Core.List.{List, _∷_, map}
 use native.Mathlib.Numerals.{add-one}

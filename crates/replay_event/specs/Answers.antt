@@ -7,7 +7,7 @@ use lib.ListN.{length}
 use Rattle.words.specs.Lists.{All}
 use Rattle.net.specs.Net.{takes}
 use Rattle.net.specs.Held.{netIn}
-use Rattle.replay.specs.Plain.{Ask, event, objectKinds}
+use Rattle.replay.specs.Plain.{objectKinds}
 use Rattle.replay.specs.Calls.{stateAt}
 use Rattle.replay_objects.specs.Offsets.{layoutOf}
 use Rattle.replay.specs.Ready.{Ready}

@@ -1,7 +1,7 @@
 -- `take_event` meets its contract: once the objects are moved, the events and FIRED of the activity are one more. Assumes nothing.
 use mathlib.Core.Path.{ap, _∙_}
 use mathlib.Core.List.{List}
-use Prim.Native.Nat.{ℕ, _+_, _*_}
+use Prim.Native.Nat.{ℕ}
 use native.Mathlib.Omega.{arith}
 use Rattle.words.specs.Words.{wordsOf}
 use Rattle.replay.specs.State.{bump}

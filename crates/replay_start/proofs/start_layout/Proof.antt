@@ -1,11 +1,9 @@
 -- Each body behind the one before it. Assumes nothing.
-use mathlib.Core.Path.{refl, ap₂, _∙_}
-use Prim.Native.Nat.{ℕ, _+_, _*_, _/_}
-use mathlib.Core.Path.{_≡_}
+use Prim.Native.Nat.{_/_}
+use mathlib.Core.Path.{_≡_, refl}
 use native.Mathlib.Omega.{arith}
 use Rattle.net.specs.Held.{netIn}
 use Rattle.replay.specs.Record.{countsSize}
-use Rattle.replay_objects.specs.declared.layout.Layout.{Layout}
 use borrow.Author.Needs.{needs}
 use Rattle.replay_start.proofs.start_layout.Statement.{statement}
 use Rattle.replay_start.proofs.start_layout.Tie as tie
