@@ -16,7 +16,7 @@ use Rattle.net.specs.Net.{Net, GoodArc, takes, inputOf, outputOf}
 use Rattle.net.specs.Held.{netIn}
 use Rattle.net.proofs.IndexLaws.{arc-has}
 use Rattle.replay.specs.Plain.{objectKinds, objectTests}
-use Rattle.replay.specs.Record.{counts, contents, encode, tableIn, stateIn}
+use Rattle.replay.specs.Record.{counts, countsSize, contents, encode, tableIn, stateIn}
 use Rattle.replay.specs.Calls.{netAt, stateAt}
 use Rattle.replay_objects.specs.Offsets.{layoutOf, eventsAt, jumpsAt}
 use Rattle.replay.specs.Ready.{Ready, KnownKinds}
@@ -43,7 +43,7 @@ module _ (w b : List ℕ) (l : Layout) (R : Ready w b) (e : l ≡ layoutOf (netI
   placed : Placed (netIn w) (tableIn b) l (stateAt b)
   placed = placed-at w b l R e
 
-  pub count-in : (i : ℕ) → i < 3 + 2 * netIn w .acts → l .counts + i < length (wordsOf b)
+  pub count-in : (i : ℕ) → i < countsSize (netIn w) → l .counts + i < length (wordsOf b)
   count-in i h = omega (arith, words-size w b l R e, placed .pairs-at)
 
   pub events-read : getD (wordsOf b) (eventsAt l) 0 ≡ stateAt b .events

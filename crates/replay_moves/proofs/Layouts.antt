@@ -7,7 +7,7 @@ use lib.ListN.{length, getD}
 use Rattle.words.specs.Words.{wordsOf}
 use Rattle.words.proofs.Lists.{All-at}
 use Rattle.net.specs.Held.{netIn}
-use Rattle.replay.specs.Record.{tableIn}
+use Rattle.replay.specs.Record.{countsSize, tableIn}
 use Rattle.replay.specs.Calls.{stateAt}
 use Rattle.replay_objects.specs.Offsets.{layoutOf, closedAt}
 use Rattle.replay.specs.Ready.{Ready}
@@ -25,7 +25,7 @@ module _ (w b : List ℕ) (l : Layout) (R : Ready w b) (e : l ≡ layoutOf (netI
   pub words-few : length (wordsOf b) ≤ maxWords
   words-few = rw (ready-words w b R) (record-few (netIn w) (tableIn b) l (stateAt b) placed-at)
 
-  pub counts-few : l .counts + (3 + 2 * netIn w .acts) ≤ maxWords
+  pub counts-few : l .counts + countsSize (netIn w) ≤ maxWords
   counts-few = omega (arith, words-size, words-few, placed-at .pairs-at)
 
   pub closed-in : closedAt l < length (wordsOf b)

@@ -14,7 +14,7 @@ use Rattle.net.proofs.HeldLaws.{held-loaded}
 use Rattle.replay_objects.specs.declared.layout.Layout.{Layout}
 use Rattle.replay.specs.State.{State, withPlaces, withClosed, withEvents, withClosing, withFired, withJumps, withPairs, pairIndex, storedPair}
 use Rattle.replay.specs.Sound.{Sound}
-use Rattle.replay.specs.Record.{interleave, counts, encode, recordWords, tableIn, stateIn}
+use Rattle.replay.specs.Record.{interleave, counts, countsSize, encode, recordWords, tableIn, stateIn}
 use Rattle.replay.specs.Calls.{netAt, stateAt}
 use Rattle.replay_objects.specs.Offsets.{layoutOf, kindAt, placeAt, closedAt, eventsAt, closingAt, firedAt, jumpsAt, pairAt}
 use Rattle.replay.specs.Ready.{Ready}
@@ -27,7 +27,7 @@ pub record Placed (N : Net) (table : List ℕ) (l : Layout) (d : State) : Type 0
   pub register-at : 10 + length (wordsOf table) ≡ l .register
   pub positions-at : kindAt l (l .objects) ≡ l .positions
   pub counts-at : placeAt l (l .objects) ≡ l .counts
-  pub pairs-at : l .counts + (3 + 2 * N .acts) ≡ l .pairs
+  pub pairs-at : l .counts + countsSize N ≡ l .pairs
   pub places-are : l .places ≡ N .places
   pub kinds-size : length (d .kinds) ≡ l .objects
   pub places-size : length (d .places) ≡ l .objects
@@ -146,7 +146,7 @@ set-three : (x y z : ℕ) (r : List ℕ) (m i v : ℕ) → m ≡ suc (suc (suc i
 set-three x y z r m i v e = rw e
 
 module _ (N : Net) (table : List ℕ) (l : Layout) (d : State) (P : Placed N table l d) where
-  counts-length : length (counts d) ≡ 3 + 2 * N .acts
+  counts-length : length (counts d) ≡ countsSize N
   counts-length = omega (arith, length-interleave (d .fired) (d .jumps) (P .fired-size ∙ sym (P .jumps-size)), P .fired-size)
 
   -- how many numbers there are
@@ -163,7 +163,7 @@ module _ (N : Net) (table : List ℕ) (l : Layout) (d : State) (P : Placed N tab
   pub get-place : (o : ℕ) → o < l .objects → getD (recordWords table d) (placeAt l o) 0 ≡ getD (d .places) o 0
   get-place o h = at-ps table (d .kinds) (d .places) (counts d) (d .pairs) (placeAt l o) o (omega (arith, P .register-at, P .positions-at, P .kinds-size)) (omega (arith, P .places-size))
 
-  get-count : (i : ℕ) → i < 3 + 2 * N .acts → getD (recordWords table d) (l .counts + i) 0 ≡ getD (counts d) i 0
+  get-count : (i : ℕ) → i < countsSize N → getD (recordWords table d) (l .counts + i) 0 ≡ getD (counts d) i 0
   get-count i h = at-cs table (d .kinds) (d .places) (counts d) (d .pairs) (l .counts + i) i (omega (arith, P .register-at, P .positions-at, P .counts-at, P .kinds-size, P .places-size)) (omega (arith, counts-length))
 
   -- all counts, those of the pairs behind the others
@@ -195,7 +195,7 @@ module _ (N : Net) (table : List ℕ) (l : Layout) (d : State) (P : Placed N tab
   pub put-place : (o v : ℕ) → o < l .objects → set (recordWords table d) (placeAt l o) v ≡ recordWords table (withPlaces d (set (d .places) o v))
   put-place o v h = set-ps table (d .kinds) (d .places) (counts d) (d .pairs) (placeAt l o) o v (omega (arith, P .register-at, P .positions-at, P .kinds-size)) (omega (arith, P .places-size))
 
-  put-count : (i v : ℕ) (e : State) → i < 3 + 2 * N .acts → set (counts d) i v ≡ counts e → e .kinds ≡ d .kinds → e .places ≡ d .places → e .pairs ≡ d .pairs
+  put-count : (i v : ℕ) (e : State) → i < countsSize N → set (counts d) i v ≡ counts e → e .kinds ≡ d .kinds → e .places ≡ d .places → e .pairs ≡ d .pairs
       → set (recordWords table d) (l .counts + i) v ≡ recordWords table e
   put-count i v e h q ek ep ej = set-cs table (d .kinds) (d .places) (counts d) (d .pairs) (l .counts + i) i v (omega (arith, P .register-at, P .positions-at, P .counts-at, P .kinds-size, P .places-size)) (omega (arith, counts-length))
       ∙ rw (q, ← ek, ← ep, ← ej)
