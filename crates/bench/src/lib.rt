@@ -22,7 +22,7 @@ fn put_row(trail: &mut [u8], t: &NetWords, events: &[u8], at: usize, count: usiz
 {
     let from = 4 * (at + 2);
     let to = from + 4 * count;
-    event_code(replay_event::event::event(trail, t, get_word(events, at), &events[from..to]))
+    event_code(replay_event::event(trail, t, get_word(events, at), &events[from..to]))
 }
 
 // Carries out the events up to the body's end, a row that is cut off or a refusal, and gives how many were accepted.

@@ -26,18 +26,18 @@ pub fn start_code(r: replay_start::StartAnswer) -> u32
     }
 }
 
-pub fn event_code(r: replay_event::event::EventAnswer) -> u32
+pub fn event_code(r: replay_event::EventAnswer) -> u32
     ensures { λ n. ⌜ n ≡ eventAnswerCode r ⌝ }
 {
     match r {
-        replay_event::event::EventAnswer::Taken => 0,
-        replay_event::event::EventAnswer::Closed => 21,
-        replay_event::event::EventAnswer::Full => 22,
-        replay_event::event::EventAnswer::Activity => 23,
-        replay_event::event::EventAnswer::Number => 24,
-        replay_event::event::EventAnswer::Object => 25,
-        replay_event::event::EventAnswer::Kind => 26,
-        replay_event::event::EventAnswer::TwoOfKind => 27,
+        replay_event::EventAnswer::Taken => 0,
+        replay_event::EventAnswer::Closed => 21,
+        replay_event::EventAnswer::Full => 22,
+        replay_event::EventAnswer::Activity => 23,
+        replay_event::EventAnswer::Number => 24,
+        replay_event::EventAnswer::Object => 25,
+        replay_event::EventAnswer::Kind => 26,
+        replay_event::EventAnswer::TwoOfKind => 27,
     }
 }
 

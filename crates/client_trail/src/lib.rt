@@ -27,10 +27,7 @@ fn put_rows(trail: &mut [u8], t: &NetWords, activity: u32, rows: &[u8]) -> u64
     requires { ⌜ Ready (now t) (now trail) ⌝ }
     ensures { λ r. ⌜ (r ≡ packed (askCode (now (trail .entry)) (askEvent activity (wordsOf (now (rows .entry))))) 0) × (now (trail .exit) ≡ askBytes (now (trail .entry)) (askEvent activity (wordsOf (now (rows .entry))))) ⌝ }
 {
-    pack(
-        event_code(replay_event::event::event(trail, t, activity, rows)),
-        0,
-    )
+    pack(event_code(replay_event::event(trail, t, activity, rows)), 0)
 }
 
 // An event with a list of objects: its rows, or nine objects for a list of no whole rows or over eight.

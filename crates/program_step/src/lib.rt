@@ -66,7 +66,7 @@ pub fn step(
             let act = event.activity;
             let first = from + 8;
             let last = first + 4 * n;
-            replay_event::event::apply(rec, t, act, &window[first..last]);
+            replay_event::apply(rec, t, act, &window[first..last]);
             Outcome {
                 spot: Spot {
                     from: last,

@@ -18,7 +18,7 @@ use Rattle.replay.specs.Counts.{leaps, transfers, consumed, jumpsIn, jum
 use Rattle.replay.specs.State.{stateOf, hopIndex, storedConsumed, storedPair, storedJumpsIn, storedJumpsOut, storedTransfers}
 use Rattle.replay.specs.Sound.{OnKind}
 use Rattle.replay.proofs.Tally.{tallied}
-use Rattle.replay.proofs.Accepted.{Fitting, accepted, Registered, GoodHop, hops-good, course-good, course-sum, begins-on, endings-good, closers-kinds, endings-sum}
+use Rattle.replay.proofs.Accepted.{Fitting, accepted, Registered, GoodHop, hops-good, course-good, course-sum, begins-on, endings-good, endings-sum}
 
 -- what holds of every state that a started run reaches
 pub record Reached (N : Net) (p : Plain) : Type 0 where
@@ -143,25 +143,29 @@ module _ (N : Net) (L : Loaded N) (p : Plain) (R : Reached N p) where
   pub consumed-is : (q : ℕ) → storedConsumed N (stateOf N p) q ≡ consumed N p q
   consumed-is q = sym (history-sum (λ (t : ℕ). one (eqb q t)))
 
+  -- the objects that the close takes, counted
+  closers-sum : p .closed * total (λ (k : ℕ). 1) (closerKinds (p .kinds)) ≡ p .closed * length (closers (p .kinds))
+  closers-sum = ap (λ (n : ℕ). p .closed * n) (total-length (closerKinds (p .kinds)) ∙ length-map (closers (p .kinds)) (λ (o : ℕ). getD (p .kinds) o 0))
+
   pub transfers-is : storedTransfers N (stateOf N p) ≡ transfers N p
   transfers-is = omega (
     arith,
     total-length (history N p),
     history-sum (λ (t : ℕ). 1),
-    ap (λ (n : ℕ). p .closed * n) (total-length (closerKinds (p .kinds)) ∙ length-map (closers (p .kinds)) (λ (o : ℕ). getD (p .kinds) o 0)),
+    closers-sum,
     sumTo-same (N .acts) (λ (a : ℕ). getD (stateOf N p .fired) a 0 * total (λ (x : Arc). 1) (N .arcs a)) (λ (a : ℕ). getD (stateOf N p .fired) a 0 * length (N .arcs a))
         (λ a h. ap (λ (n : ℕ). getD (stateOf N p .fired) a 0 * n) (total-length (N .arcs a))),
   )
 
-  -- transfers, by the objects of the events and the register's size once closed
-  pub transfers-by-objects : transfers N p ≡ total (λ (e : Event). length (e .objs)) (p .events) + p .closed * length (p .kinds)
+  -- transfers, by the objects of the events and those that the close takes
+  pub transfers-by-objects : transfers N p ≡ total (λ (e : Event). length (e .objs)) (p .events) + p .closed * length (closers (p .kinds))
   transfers-by-objects = omega (
     arith,
     total-length (history N p),
     total-append (λ (h : Hop). 1) (eventHops N p) (closeHops N p),
     moves-sum (λ (t : ℕ). 1),
     lasts-sum (λ (t : ℕ). 1),
-    ap (λ (n : ℕ). p .closed * n) (total-length (closerKinds (p .kinds)) ∙ ap length (closers-kinds (p .kinds))),
+    closers-sum,
     total-same (Fitting N (p .kinds)) (λ (e : Event). total (λ (x : Arc). 1) (N .arcs (e .act))) (λ (e : Event). length (e .objs)) (p .events) (R .fits) (λ e t. total-length (N .arcs (e .act)) ∙ sym (t .size)),
   )
 

@@ -5,12 +5,12 @@ use mathlib.Core.Bool.{Bool, true, false}
 use mathlib.Core.Path.{_≡_, refl, ap, ap₂, sym, _∙_}
 use mathlib.Core.List.{List, [], _∷_, map}
 use native.Mathlib.Omega.{arith}
-use lib.ListN.{length, getD, set, length-set, length-map}
-use lib.Seq.{getD-set-same, getD-set-other, ext-getD}
+use lib.ListN.{length, getD, set, length-set}
+use lib.Seq.{getD-set-same, getD-set-other}
 use lib.Dec.{eqb}
 use borrow.Author.Tests.{eqb-false}
 use Rattle.words.specs.Lists.{pick, All, has, twice, upto}
-use Rattle.words.proofs.Lists.{clash, All-to, All-map, All-unmap, All-zip, any-none, map-at, upto-in, upto-all}
+use Rattle.words.proofs.Lists.{clash, All-to, All-map, All-unmap, All-zip, any-none, upto-in}
 use Rattle.net.specs.Net.{Net}
 use Rattle.replay.specs.Plain.{Event, Leg, Hop, hops, walked, objectKinds, closers, leg, legs, ending, endings}
 use Rattle.replay.specs.Claims.{judged, EventAtOnce, CloseAtOnce}
@@ -50,7 +50,7 @@ walked-own (l ∷ ls) ps a h = (
   walked-own ls (set ps (l .obj) (l .out)) (a .1) (All-to (λ (m : Leg). m .obj < length ps) (λ (m : Leg). m .obj < length (set ps (l .obj) (l .out))) (λ m q. rw length-set q) ls (h .1)),
 )
 
--- an object that an event does not name
+-- an object that is none of these
 pub not-among : (o : ℕ) (os : List ℕ) → has o os ≡ false → All (λ (x : ℕ). x ≡ o → ⊥) os
 not-among o os h = any-none (eqb o) (λ (x : ℕ). x ≡ o → ⊥) (λ x f q. eqb-false _ _ f (sym q)) os h
 
@@ -86,15 +86,13 @@ module _ (N : Net) (ks : List ℕ) where
       All-unmap (ending N ks) (λ (l : Leg). getD (walked ps (endings N ks)) (l .obj) 0 ≡ l .out) (closers ks) (walked-own (endings N ks) ps apart-endings
       (All-map (ending N ks) (λ (l : Leg). l .obj < length ps) (closers ks) (All-to (λ (o : ℕ). o < 0 + length ks) (λ (o : ℕ). o < length ps) (λ o q. omega arith) (closers ks) (upto-in (length ks) 0))))
 
-  sunk-at : (ps : List ℕ) → length ks ≤ length ps → (o : ℕ) → o < length ks → getD (walked ps (endings N ks)) o 0 ≡ N .sink (getD ks o 0)
-  sunk-at ps f o h = upto-all (λ (o : ℕ). getD (walked ps (endings N ks)) o 0 ≡ N .sink (getD ks o 0)) (length ks) 0 .0 (all-sunk ps f) o (omega arith) (omega arith)
-
   module _ (ps : List ℕ) (size : length ps ≡ length ks) where
     pub close-at-once : CloseAtOnce N ks ps
     close-at-once = record {
       at-entry = judged-at-entry (endings N ks) ps apart-endings;
-      leaves = ext-getD 0 (walked ps (endings N ks)) (map (N .sink) ks) (walked-size (endings N ks) ps ∙ size ∙ sym (length-map ks (N .sink)))
-          (λ o h. let l : o < length ks = omega (arith, walked-size (endings N ks) ps) in sunk-at ps (omega arith) o l ∙ sym (map-at (N .sink) 0 0 ks o l));
+      size = walked-size (endings N ks) ps;
+      own = all-sunk ps (omega arith);
+      others = λ o h. walked-other (endings N ks) ps o (All-map (ending N ks) (λ (m : Leg). m .obj ≡ o → ⊥) (closers ks) (not-among o (closers ks) h));
     }
 
     -- of an event whose objects are known, no two of one kind

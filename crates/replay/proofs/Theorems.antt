@@ -17,7 +17,7 @@ use Rattle.replay.specs.Permitted.{Permitted}
 use Rattle.replay.specs.State.{State, startState, answerS, runS, answersS, stateOf}
 use Rattle.replay.specs.Sound.{OnKind, Sound}
 use Rattle.replay.specs.Claims.{Agrees, EventAtOnce, CloseAtOnce}
-use Rattle.replay.proofs.Accepted.{accepted, registered}
+use Rattle.replay.proofs.Accepted.{accepted, registered, closers-length}
 use Rattle.replay.proofs.Entry.{event-at-once, close-at-once}
 use Rattle.replay.proofs.Simulate.{run-sim, answers-sim}
 use Rattle.replay.proofs.Agree.{Reached, reached-run, reached-start, pair-is, in-is, out-is, fired-is, jumps-is, consumed-is, transfers-is, transfers-by-objects, consumed-total, positions-on}
@@ -86,10 +86,10 @@ module _ (N : Net) (L : Loaded N) (ks : List ℕ) (ok : registerCode N ks ≡ 0)
   pub stored-agree : Agrees N (runS N (startState N ks) qs) (run N (start ks) qs)
   stored-agree = subst (λ (d : State). Agrees N d (run N (start ks) qs)) (sym (states-agree N ks qs)) counts-agree
 
-  -- transfers: the objects summed over the accepted events, and the register's size once closed
+  -- transfers: the objects summed over the accepted events, and once closed those that the close takes, the register's size
   pub transfers-are : transfers N (run N (start ks) qs) ≡ total (λ (e : Event). length (e .objs)) (run N (start ks) qs .events) + run N (start ks) qs .closed * length ks
-  transfers-are = subst (λ (l : List ℕ). transfers N (run N (start ks) qs) ≡ total (λ (e : Event). length (e .objs)) (run N (start ks) qs .events) + run N (start ks) qs .closed * length l)
-      (run-kinds N qs (start ks)) (transfers-by-objects N L (run N (start ks) qs) reached)
+  transfers-are = let p : Plain = run N (start ks) qs in subst (λ (l : List ℕ). transfers N (run N (start ks) qs) ≡ total (λ (e : Event). length (e .objs)) (run N (start ks) qs .events) + run N (start ks) qs .closed * length l)
+      (run-kinds N qs (start ks)) (transfers-by-objects N L p reached ∙ ap (λ (n : ℕ). total (λ (e : Event). length (e .objs)) (p .events) + p .closed * n) (closers-length (p .kinds)))
 
   pub closed-le : run N (start ks) qs .closed ≤ 1
   closed-le = reached .flag

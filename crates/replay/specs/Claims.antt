@@ -2,11 +2,13 @@
 -- the order of an event's objects is free, and that no count of jumps exceeds what it is a part of. They are proved in
 -- `proofs/Theorems.antt`, `Order.antt` and `Within.antt`.
 use Prim.Native.Nat.{ℕ, _+_, _-_, _≤_, _<_}
+use mathlib.Core.Bool.{false}
 use mathlib.Core.Path.{_≡_}
 use mathlib.Core.List.{List, _∷_, map}
 use lib.ListN.{length, getD}
+use Rattle.words.specs.Lists.{All, has}
 use Rattle.net.specs.Net.{Net}
-use Rattle.replay.specs.Plain.{Event, Leg, Hop, Plain, hops, walked, legs, endings, positions, askEvent}
+use Rattle.replay.specs.Plain.{Event, Leg, Hop, Plain, hops, walked, closers, legs, endings, positions, askEvent}
 use Rattle.replay.specs.Counts.{transfers, allJumps, consumed, jumpsIn, jumpsOut, pairJumps, fired, moved, jumps, closingJumps}
 use Rattle.replay.specs.Permitted.{Leaves}
 use Rattle.replay.specs.State.{State, answerS, askS, storedConsumed, storedPair, storedJumpsIn, storedJumpsOut, storedMoved, storedJumps, storedTransfers}
@@ -39,10 +41,13 @@ pub record EventAtOnce (N : Net) (ks ps : List ℕ) (e : Event) : Type 0 where
   pub at-entry : hops ps (legs N ks e) ≡ map (judged ps) (legs N ks e)
   pub leaves : Leaves N ks ps e (walked ps (legs N ks e))
 
--- a close: each object is judged by the places at the close's entry, and all are left on their kinds' sinks
+-- a close: each object that it takes is judged by the places at the close's entry, and is left on its kind's sink; no other
+-- object moves
 pub record CloseAtOnce (N : Net) (ks ps : List ℕ) : Type 0 where
   pub at-entry : hops ps (endings N ks) ≡ map (judged ps) (endings N ks)
-  pub leaves : walked ps (endings N ks) ≡ map (N .sink) ks
+  pub size : length (walked ps (endings N ks)) ≡ length ps
+  pub own : All (λ (o : ℕ). getD (walked ps (endings N ks)) o 0 ≡ N .sink (getD ks o 0)) (closers ks)
+  pub others : (o : ℕ) → has o (closers ks) ≡ false → getD (walked ps (endings N ks)) o 0 ≡ getD ps o 0
 
 -- the second list has the elements of the first in another order, or the same
 pub data Permuted {A : Type 0} : List A → List A → Type 0 where

@@ -7,13 +7,16 @@ use lib.Dec.{eqb}
 use Rattle.words.specs.Words.{wordsOf}
 use Rattle.net.specs.Net.{Net}
 
--- numbers of a row
+-- numbers and bytes of a row
 abbrev pub rowSize : Net → ℕ
 rowSize N = 1
 
+abbrev pub rowBytes : Net → ℕ
+rowBytes N = 4 * rowSize N
+
 -- the bytes are rows and nothing behind them
 abbrev pub wholeRows : Net → List ℕ → Bool
-wholeRows N s = eqb (length s % (4 * rowSize N)) 0
+wholeRows N s = eqb (length s % rowBytes N) 0
 
 -- the kinds of the objects
 abbrev pub kindsIn : Net → List ℕ → List ℕ

@@ -1,4 +1,4 @@
--- The close, object by object: what is left to do, and the closed record. Assumes nothing.
+-- The close, object by object (`closers` are all of them): what is left to do, and the closed record. Assumes nothing.
 use Prim.Native.Nat.{ℕ, suc, _+_, _-_, _≤_, _<_}
 use mathlib.Core.Path.{_≡_, refl, ap, sym, _∙_, subst}
 use mathlib.Core.List.{List, _∷_, map}
@@ -12,7 +12,7 @@ use Rattle.replay.specs.Plain.{Leg, ending, endings}
 use Rattle.replay.specs.State.{State, withClosed, withClosing, hopIndex, leapsOf, closeJumps, afterLegs, afterClose}
 use Rattle.replay.specs.Record.{recordWords, tableIn}
 use Rattle.replay.specs.Calls.{stateAt}
-use Rattle.replay_objects.specs.Offsets.{layoutOf}
+use Rattle.replay_objects.specs.Offsets.{layoutOf, closedAt, closingAt}
 use Rattle.replay.specs.Ready.{Ready}
 use Rattle.replay_moves.specs.Moves.{raise, jumpsTo, goWords}
 use Rattle.replay_objects.specs.declared.layout.Layout.{Layout}
@@ -24,7 +24,7 @@ use Rattle.replay_moves.proofs.Legs.{LegsLeft, legs-turn, legs-end}
 
 -- the objects `os` are left to take from their sinks, and s jumps to add; then the state is `goal`
 abbrev pub Sinking : Net → List ℕ → Layout → ℕ → List ℕ → List ℕ → State → ℕ → List ℕ → Type 0
-Sinking N table l b ks os goal s w = LegsLeft N table l b (l .counts + 2) closeJumps ks (map (ending N ks) os) goal s w
+Sinking N table l b ks os goal s w = LegsLeft N table l b (closingAt l) closeJumps ks (map (ending N ks) os) goal s w
 
 upto-first : (n o : ℕ) → o < n → upto (n - o) o ≡ o ∷ upto (n - (o + 1)) (o + 1)
 upto-first n o h = let e : n - o ≡ suc (n - (o + 1)) = omega arith in ap (λ (j : ℕ). upto j o) e ∙ ap (λ (i : ℕ). o ∷ upto (n - (o + 1)) i) (sym (add-one o))
@@ -33,12 +33,12 @@ module _ (N : Net) (table : List ℕ) (l : Layout) (b : ℕ) (ks : List ℕ) (go
   pub sink-turn : (c k : ℕ) → o < n → k ≡ getD ks o 0 → o < l .objects → N .sink k < l .places → b + 1 ≤ c
       → Sinking N table l c ks (upto (n - (o + 1)) (o + 1)) goal (s + jumpsTo l o (N .sink k) w) (goWords l o (N .sink k) (N .sink k) w)
   sink-turn c k h q ho hs more =
-      rw q (legs-turn N table l (l .counts + 2) (N .acts) closeJumps (close-counter N table l) b ks goal s w c (ending N ks o) (map (ending N ks) (upto (n - (o + 1)) (o + 1)))
+      rw q (legs-turn N table l (closingAt l) (N .acts) closeJumps (close-counter N table l) b ks goal s w c (ending N ks o) (map (ending N ks) (upto (n - (o + 1)) (o + 1)))
       (subst (λ (r : List ℕ). Sinking N table l b ks r goal s w) (upto-first n o h) T) refl ho (rw q at hs) (rw q at hs) more)
 
-  pub sink-end : n ≤ o → raise w (l .counts + 2) s ≡ recordWords table goal
+  pub sink-end : n ≤ o → raise w (closingAt l) s ≡ recordWords table goal
   sink-end h = let z : n - o ≡ 0 = omega arith in
-      legs-end N table l (l .counts + 2) (N .acts) closeJumps (close-counter N table l) b ks goal s w (subst (λ (j : ℕ). Sinking N table l b ks (upto j o) goal s w) z T)
+      legs-end N table l (closingAt l) (N .acts) closeJumps (close-counter N table l) b ks goal s w (subst (λ (j : ℕ). Sinking N table l b ks (upto j o) goal s w) z T)
 
 -- an object's sink is a known place
 pub sink-of-in : (w b : List ℕ) (l : Layout) (R : Ready w b) (e : l ≡ layoutOf (netIn w) b)
@@ -59,10 +59,10 @@ module _ (w b : List ℕ) (l : Layout) (R : Ready w b) (e : l ≡ layoutOf (netI
   placed : Placed (netIn w) (tableIn b) l m
   placed = placed-same (netIn w) (tableIn b) l d m (placed-at w b l R e) refl (length-walked ls (d .places)) refl refl (length-tally (map (hopIndex (netIn w)) (leapsOf d ls)) (d .pairs))
 
-  pub can-close : l .counts < length (recordWords (tableIn b) m)
+  pub can-close : closedAt l < length (recordWords (tableIn b) m)
   can-close = omega (arith, record-size (netIn w) (tableIn b) l m placed, placed .pairs-at)
 
-  pub closed-numbers : d .closed ≡ 0 → set (recordWords (tableIn b) m) (l .counts) 1 ≡ recordWords (tableIn b) (afterClose (netIn w) d)
+  pub closed-numbers : d .closed ≡ 0 → set (recordWords (tableIn b) m) (closedAt l) 1 ≡ recordWords (tableIn b) (afterClose (netIn w) d)
   closed-numbers c =
       put-closed (netIn w) (tableIn b) l m placed 1
       ∙ ap (λ (n : ℕ). recordWords (tableIn b) (withClosed (afterLegs (netIn w) closeJumps (withClosing d n) ls) 1)) (ready-sound w b R .closing-open c)

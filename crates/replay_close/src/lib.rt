@@ -5,6 +5,9 @@ use net::NetWords;
 use replay_moves::add;
 use replay_moves::move_object;
 use replay_objects::layout::Layout;
+use replay_objects::layout::closed_at;
+use replay_objects::layout::closing_at;
+use replay_objects::layout::get_kind;
 use replay_objects::layout::read_layout;
 ghost use mathlib.Core.Path.{_≡_};
 ghost use Rattle.words.specs.Words.{wordsOf};
@@ -24,7 +27,8 @@ pub enum CloseAnswer {
     AlreadyClosed,
 }
 
-// Every object jumps to its sink where it is not there, and is taken from it; the jumps are added once, behind the last object.
+// Every object that the close takes (`closers`: all of them) jumps to its sink where it is not there, and is taken from it; the jumps
+// are added once, behind the last object.
 fn sink_objects(rec: &mut [u8], t: &NetWords, lay: Layout)
     requires { ⌜ Ready (now t) (now rec) ⌝ }
     requires { ⌜ lay ≡ layoutOf (netIn (now t)) (now rec) ⌝ }
@@ -33,12 +37,12 @@ fn sink_objects(rec: &mut [u8], t: &NetWords, lay: Layout)
     let mut o = 0;
     let mut jumps = 0u32;
     while o < lay.objects {
-        let k = words::get_word(rec, lay.register + o) as usize;
+        let k = words::wide(get_kind(rec, lay, o));
         let sink = net_lookup::sink(t, k);
         jumps += move_object(rec, lay, o, sink, sink as u32);
         o += 1;
     }
-    add(rec, lay.counts + 2, jumps);
+    add(rec, closing_at(lay), jumps);
 }
 
 // Closes a trail: it is closed already and nothing changes, or it is closed in the record's bytes.
@@ -47,10 +51,10 @@ pub fn close(rec: &mut [u8], t: &NetWords) -> CloseAnswer
     ensures { λ r. ⌜ (closeAnswerCode r ≡ askCode (now (rec .entry)) askClose) × (now (rec .exit) ≡ askBytes (now (rec .entry)) askClose) ⌝ }
 {
     let lay = read_layout(rec, t);
-    if words::get_word(rec, lay.counts) != 0 {
+    if words::get_word(rec, closed_at(lay)) != 0 {
         return CloseAnswer::AlreadyClosed;
     }
     sink_objects(rec, t, lay);
-    words::put_word(rec, lay.counts, 1);
+    words::put_word(rec, closed_at(lay), 1);
     CloseAnswer::Taken
 }

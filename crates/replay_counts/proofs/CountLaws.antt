@@ -1,31 +1,24 @@
--- The counts in a trail's bytes: where each number stands, how large it can be, and the sums. Assumes nothing.
+-- The sums of a trail's stored numbers, and how large they can be. Assumes nothing.
 use Prim.Native.Nat.{ℕ, zero, suc, _+_, _*_, _≤_, _<_}
 use mathlib.Core.Bool.{Bool, true, false}
-use mathlib.Core.Path.{_≡_, refl, ap, sym, subst, _∙_}
+use mathlib.Core.Path.{_≡_, refl, ap, sym, _∙_}
 use mathlib.Core.List.{List, [], _∷_, map}
 use native.Mathlib.Omega.{arith}
 use native.Mathlib.Nat.{zero-add, mul-le-mul, mul-le-mul-right}
 use native.Mathlib.Decide.{ℕ-discrete}
-use lib.ListN.{length, getD}
-use lib.Arith.{digits-lt}
+use lib.ListN.{getD}
 use lib.Dec.{eqb}
 use borrow.Author.Tests.{eq-eqb, ne-eqb}
 use Rattle.words.specs.Lists.{pick, has, twice, one, total, sumTo}
-use Rattle.words.specs.Words.{wordsOf}
-use Rattle.words.proofs.Lists.{clash, All-at}
+use Rattle.words.proofs.Lists.{clash}
 use Rattle.words.proofs.Sums.{sumTo-more}
 use Rattle.net.specs.Net.{Net, Arc, Loaded, takes, arcOf, inputOf}
 use Rattle.net.specs.Held.{netIn}
-use Rattle.replay_objects.specs.declared.layout.Layout.{Layout}
 use Rattle.replay.specs.State.{State, inputs, storedPair, storedMoved}
-use Rattle.replay.specs.Record.{recordWords, tableIn}
 use Rattle.replay.specs.Calls.{stateAt}
-use Rattle.replay_objects.specs.Offsets.{layoutOf}
 use Rattle.replay.specs.Ready.{Ready}
-use Rattle.replay.proofs.Accepted.{closers-length}
-use Rattle.replay.proofs.Encode.{fired-le, jumps-le, pairs-le}
-use Rattle.replay_objects.proofs.RecordLaws.{Placed, record-size, record-few, get-kind, get-closed, get-events, get-closing, get-fired, get-jumps, get-pair, ready-loaded, ready-sound, ready-words, ready-placed}
-use Rattle.replay.specs.Limits.{maxWords}
+use Rattle.replay_objects.proofs.RecordLaws.{ready-loaded}
+use Rattle.replay_stored.proofs.StoredLaws.{fired-few, jumps-few, pair-few}
 
 -- sums
 sum-under : (n m : ℕ) (f : ℕ → ℕ) → ((i : ℕ) → i < n → f i ≤ m) → (i : ℕ) → i ≤ n → sumTo i f ≤ i * m
@@ -87,12 +80,6 @@ inputs-le N L q a h = rw (inputs-is N L q a h) (go (takes N a (N .kindOf q)) (eq
     go true false = omega arith
     go false t = omega arith
 
--- number i of the bytes is there, and is x
-pub record At (b : List ℕ) (i x : ℕ) : Type 0 where
-  pub there : i < length (wordsOf b)
-  pub small : i ≤ maxWords
-  pub is : getD (wordsOf b) i 0 ≡ x
-
 module _ (w b : List ℕ) (R : Ready w b) where
   abbrev N : Net
   N = netIn w
@@ -100,88 +87,22 @@ module _ (w b : List ℕ) (R : Ready w b) where
   abbrev d : State
   d = stateAt b
 
-  module _ (l : Layout) (e : l ≡ layoutOf (netIn w) b) where
-    placed : Placed N (tableIn b) l d
-    placed = subst (λ (l : Layout). Placed N (tableIn b) l d) (sym e) (ready-placed w b R)
-
-    at : (i x : ℕ) → i < l .pairs + l .places * l .places → getD (recordWords (tableIn b) d) i 0 ≡ x → At b i x
-    at i x h q =
-        let s : length (wordsOf b) ≡ l .pairs + l .places * l .places = ap length (ready-words w b R) ∙ record-size N (tableIn b) l d placed in
-        record {
-          there = omega arith;
-          small = omega (arith, record-size N (tableIn b) l d placed, record-few N (tableIn b) l d placed);
-          is = ap (λ (v : List ℕ). getD v i 0) (ready-words w b R) ∙ q;
-        }
-
-    pub closed-at : At b (l .counts) (stateAt b .closed)
-    closed-at = at (l .counts) (d .closed) (omega (arith, placed .pairs-at)) (get-closed N (tableIn b) l d placed)
-
-    pub events-at : At b (l .counts + 1) (stateAt b .events)
-    events-at = at (l .counts + 1) (d .events) (omega (arith, placed .pairs-at)) (get-events N (tableIn b) l d placed)
-
-    pub closing-at : At b (l .counts + 2) (stateAt b .closing)
-    closing-at = at (l .counts + 2) (d .closing) (omega (arith, placed .pairs-at)) (get-closing N (tableIn b) l d placed)
-
-    pub objects-are : l .objects ≡ length (stateAt b .kinds)
-    objects-are = sym (placed .kinds-size)
-
-    pub kind-at : (o : ℕ) → o < length (stateAt b .kinds) → At b (l .register + o) (getD (stateAt b .kinds) o 0)
-    kind-at o h =
-        let o-in : o < l .objects = omega (arith, objects-are) in
-        at (l .register + o) (getD (d .kinds) o 0) (omega (arith, placed .positions-at, placed .counts-at, placed .pairs-at)) (get-kind N (tableIn b) l d placed o o-in)
-
-    pub fired-at : (a : ℕ) → a < netIn w .acts → At b (l .counts + (3 + 2 * a)) (getD (stateAt b .fired) a 0)
-    fired-at a h = at (l .counts + (3 + 2 * a)) (getD (d .fired) a 0) (omega (arith, placed .pairs-at)) (get-fired N (tableIn b) l d placed a h)
-
-    pub jumps-at : (a : ℕ) → a < netIn w .acts → At b (l .counts + (4 + 2 * a)) (getD (stateAt b .jumps) a 0)
-    jumps-at a h = at (l .counts + (4 + 2 * a)) (getD (d .jumps) a 0) (omega (arith, placed .pairs-at)) (get-jumps N (tableIn b) l d placed a h)
-
-    pub pair-at : (x y : ℕ) → x < netIn w .places → y < netIn w .places → At b (l .pairs + (x * l .places + y)) (storedPair (netIn w) (stateAt b) x y)
-    pair-at x y hx hy =
-        let p : l .places ≡ N .places = placed .places-are in
-        let x-in : x < l .places = omega arith in
-        let y-in : y < l .places = omega arith in
-        at (l .pairs + (x * l .places + y)) (storedPair N d x y) (omega (arith, digits-lt x-in y-in))
-        (get-pair N (tableIn b) l d placed (x * l .places + y) ∙ ap (λ (n : ℕ). getD (d .pairs) (x * n + y) 0) p)
-
-  -- how large the numbers can be
-  pub closed-le : stateAt b .closed ≤ 1
-  closed-le = ready-sound w b R .flag
-
-  pub closing-few : stateAt b .closing ≤ 1024
-  closing-few = let S = ready-sound w b R in omega (arith, S .closing-le, closers-length (stateAt b .kinds), S .few)
-
-  pub objects-few : length (stateAt b .kinds) ≤ 1024
-  objects-few = ready-sound w b R .few
-
-  pub kind-in : (o : ℕ) → o < length (stateAt b .kinds) → getD (stateAt b .kinds) o 0 < netIn w .kinds
-  kind-in o h = All-at (λ (k : ℕ). k < N .kinds) 0 (d .kinds) (ready-sound w b R .kinds) o h
-
-  pub fired-few : (a : ℕ) → a < netIn w .acts → getD (stateAt b .fired) a 0 ≤ 1000000
-  fired-few = fired-le N (ready-loaded w b R) d (ready-sound w b R)
-
-  pub jumps-few : (a : ℕ) → a < netIn w .acts → getD (stateAt b .jumps) a 0 ≤ 8000000
-  jumps-few = jumps-le N (ready-loaded w b R) d (ready-sound w b R)
-
   pub moved-few : (a : ℕ) → a < netIn w .acts → storedMoved (netIn w) (stateAt b) a ≤ 8000000
-  moved-few a h = omega (arith, mul-le-mul (fired-few a h) (ready-loaded w b R .arcs-le a h))
-
-  pub pair-few : (x y : ℕ) → x < netIn w .places → y < netIn w .places → storedPair (netIn w) (stateAt b) x y ≤ 8001024
-  pair-few x y hx hy = pairs-le N (ready-loaded w b R) d (ready-sound w b R) (x * N .places + y) (digits-lt hx hy)
+  moved-few a h = omega (arith, mul-le-mul (fired-few w b R a h) (ready-loaded w b R .arcs-le a h))
 
   -- and the sums of them
   pub in-few : (q : ℕ) → q < netIn w .places → (i : ℕ) → i ≤ netIn w .places → sumTo i (λ (x : ℕ). storedPair (netIn w) (stateAt b) x q) ≤ 512065536
-  in-few q h = sum-few (N .places) 8001024 (λ (x : ℕ). storedPair N d x q) (ready-loaded w b R .places-le) (λ x l. pair-few x q l h)
+  in-few q h = sum-few (N .places) 8001024 (λ (x : ℕ). storedPair N d x q) (ready-loaded w b R .places-le) (λ x l. pair-few w b R x q l h)
 
   pub out-few : (q : ℕ) → q < netIn w .places → (i : ℕ) → i ≤ netIn w .places → sumTo i (λ (y : ℕ). storedPair (netIn w) (stateAt b) q y) ≤ 512065536
-  out-few q h = sum-few (N .places) 8001024 (λ (y : ℕ). storedPair N d q y) (ready-loaded w b R .places-le) (λ y l. pair-few q y h l)
+  out-few q h = sum-few (N .places) 8001024 (λ (y : ℕ). storedPair N d q y) (ready-loaded w b R .places-le) (λ y l. pair-few w b R q y h l)
 
   pub taken-few : (q i : ℕ) → i ≤ netIn w .acts → sumTo i (λ (a : ℕ). getD (stateAt b .fired) a 0 * inputs (netIn w) q a) ≤ 64000000
   taken-few q = sum-few (N .acts) 1000000 (λ (a : ℕ). getD (d .fired) a 0 * inputs N q a) (ready-loaded w b R .acts-le)
-      (λ a l. omega (arith, mul-le-mul (fired-few a l) (inputs-le N (ready-loaded w b R) q a l)))
+      (λ a l. omega (arith, mul-le-mul (fired-few w b R a l) (inputs-le N (ready-loaded w b R) q a l)))
 
   pub jumps-sum-few : (i : ℕ) → i ≤ netIn w .acts → sumTo i (λ (a : ℕ). getD (stateAt b .jumps) a 0) ≤ 512000000
-  jumps-sum-few = sum-few (N .acts) 8000000 (λ (a : ℕ). getD (d .jumps) a 0) (ready-loaded w b R .acts-le) jumps-few
+  jumps-sum-few = sum-few (N .acts) 8000000 (λ (a : ℕ). getD (d .jumps) a 0) (ready-loaded w b R .acts-le) (jumps-few w b R)
 
   pub moved-sum-few : (i : ℕ) → i ≤ netIn w .acts → sumTo i (λ (a : ℕ). storedMoved (netIn w) (stateAt b) a) ≤ 512000000
   moved-sum-few = sum-few (N .acts) 8000000 (λ (a : ℕ). storedMoved N d a) (ready-loaded w b R .acts-le) moved-few

@@ -1,8 +1,15 @@
 // Reading every count of document 01 from a trail's bytes: what is stored is looked up, and the rest is summed from it.
-// Above `net_lookup` and `replay`. `report` and `client_counts` write what it reads.
+// Above `replay_stored`, which looks up, `net_lookup` and `replay`. `report` and `client_counts` write what it reads.
 
 use net::NetWords;
-use replay_objects::layout::read_layout;
+use replay_stored::closed;
+use replay_stored::closing;
+use replay_stored::events;
+use replay_stored::fired;
+use replay_stored::jumps_of;
+use replay_stored::kind;
+use replay_stored::objects;
+use replay_stored::pair;
 use words::wide;
 ghost use mathlib.Core.Path.{_≡_};
 ghost use Prim.Native.Nat.{_+_, _*_, _<_, _≤_};
@@ -10,7 +17,8 @@ ghost use lib.ListN.{length, getD};
 ghost use lib.Dec.{eqb};
 ghost use Rattle.words.specs.Lists.{one, sumTo};
 ghost use Rattle.net.specs.Held.{netIn, Held};
-ghost use Rattle.replay.specs.State.{inputs, sunkOn, storedConsumed, storedPair, storedJumpsIn, storedJumpsOut, storedMoved, storedJumps, storedTransfers};
+ghost use Rattle.replay.specs.Plain.{closerKinds};
+ghost use Rattle.replay.specs.State.{inputs, sunkOn, storedConsumed, storedJumpsIn, storedJumpsOut, storedMoved, storedJumps, storedTransfers};
 ghost use Rattle.replay.specs.Calls.{stateAt};
 ghost use Rattle.replay.specs.Ready.{Ready};
 ghost use Rattle.replay_counts.specs.Reads.{placeRead, placeCode, placeReadCode, actRead, actCode, actReadCode, pairRead, pairCode, pairReadCode, trailRead};
@@ -58,72 +66,6 @@ pub struct TrailCounts {
     pub transfers: u32,
 }
 
-// 1 once the trail is closed, else 0.
-fn closed(rec: &[u8], t: &NetWords) -> u32
-    requires { ⌜ Ready (now t) (now rec) ⌝ }
-    ensures { λ r. ⌜ (r ≡ stateAt (now (rec .entry)) .closed) × (r ≤ 1) ⌝ }
-{
-    let lay = read_layout(rec, t);
-    words::get_word(rec, lay.counts)
-}
-
-// The accepted events.
-fn events(rec: &[u8], t: &NetWords) -> u32
-    requires { ⌜ Ready (now t) (now rec) ⌝ }
-    ensures { λ r. ⌜ r ≡ stateAt (now (rec .entry)) .events ⌝ }
-{
-    let lay = read_layout(rec, t);
-    words::get_word(rec, lay.counts + 1)
-}
-
-// The closing jumps.
-fn closing(rec: &[u8], t: &NetWords) -> u32
-    requires { ⌜ Ready (now t) (now rec) ⌝ }
-    ensures { λ r. ⌜ (r ≡ stateAt (now (rec .entry)) .closing) × (r ≤ 1024) ⌝ }
-{
-    let lay = read_layout(rec, t);
-    words::get_word(rec, lay.counts + 2)
-}
-
-// How many objects there are.
-fn objects(rec: &[u8], t: &NetWords) -> usize
-    requires { ⌜ Ready (now t) (now rec) ⌝ }
-    ensures { λ r. ⌜ (r ≡ length (stateAt (now (rec .entry)) .kinds)) × (r ≤ 1024) ⌝ }
-{
-    let lay = read_layout(rec, t);
-    lay.objects
-}
-
-// The kind of object o.
-fn kind(rec: &[u8], t: &NetWords, o: usize) -> usize
-    requires { ⌜ Ready (now t) (now rec) ⌝ }
-    requires { ⌜ o < length (stateAt (now rec) .kinds) ⌝ }
-    ensures { λ r. ⌜ (r ≡ getD (stateAt (now (rec .entry)) .kinds) o 0) × (r < netIn (now (t .entry)) .kinds) ⌝ }
-{
-    let lay = read_layout(rec, t);
-    wide(words::get_word(rec, lay.register + o))
-}
-
-// FIRED of activity a.
-fn fired(rec: &[u8], t: &NetWords, a: usize) -> u32
-    requires { ⌜ Ready (now t) (now rec) ⌝ }
-    requires { ⌜ a < netIn (now t) .acts ⌝ }
-    ensures { λ r. ⌜ (r ≡ getD (stateAt (now (rec .entry)) .fired) a 0) × (r ≤ 1000000) ⌝ }
-{
-    let lay = read_layout(rec, t);
-    words::get_word(rec, lay.counts + (3 + 2 * a))
-}
-
-// JUMPS of activity a.
-fn jumps_of(rec: &[u8], t: &NetWords, a: usize) -> u32
-    requires { ⌜ Ready (now t) (now rec) ⌝ }
-    requires { ⌜ a < netIn (now t) .acts ⌝ }
-    ensures { λ r. ⌜ (r ≡ getD (stateAt (now (rec .entry)) .jumps) a 0) × (r ≤ 8000000) ⌝ }
-{
-    let lay = read_layout(rec, t);
-    words::get_word(rec, lay.counts + (4 + 2 * a))
-}
-
 // MOVED of activity a: FIRED times its arcs.
 fn moved(rec: &[u8], t: &NetWords, a: usize) -> u32
     requires { ⌜ Ready (now t) (now rec) ⌝ }
@@ -132,16 +74,6 @@ fn moved(rec: &[u8], t: &NetWords, a: usize) -> u32
 {
     let n = net_lookup::arcs(t, a);
     fired(rec, t, a) * (n as u32)
-}
-
-// The jump count from place x to place y.
-fn pair(rec: &[u8], t: &NetWords, x: usize, y: usize) -> u32
-    requires { ⌜ Ready (now t) (now rec) ⌝ }
-    requires { ⌜ (x < netIn (now t) .places) × (y < netIn (now t) .places) ⌝ }
-    ensures { λ r. ⌜ (r ≡ storedPair (netIn (now (t .entry))) (stateAt (now (rec .entry))) x y) × (r ≤ 8001024) ⌝ }
-{
-    let lay = read_layout(rec, t);
-    words::get_word(rec, lay.pairs + (x * lay.places + y))
 }
 
 // IN of place q: the jumps from every place to it.
@@ -221,10 +153,10 @@ fn sinks_on(rec: &[u8], t: &NetWords, q: usize, o: usize) -> u32
     1
 }
 
-// How many objects have the sink q.
+// How many of the objects that the close takes (`closers`: all of them) have the sink q.
 fn sunk_on(rec: &[u8], t: &NetWords, q: usize) -> u32
     requires { ⌜ Ready (now t) (now rec) ⌝ }
-    ensures { λ r. ⌜ (r ≡ sunkOn (netIn (now (t .entry))) (stateAt (now (rec .entry)) .kinds) q) × (r ≤ 1024) ⌝ }
+    ensures { λ r. ⌜ (r ≡ sunkOn (netIn (now (t .entry))) (closerKinds (stateAt (now (rec .entry)) .kinds)) q) × (r ≤ 1024) ⌝ }
 {
     let n = objects(rec, t);
     let mut sum = 0u32;
@@ -263,7 +195,7 @@ fn all_jumps(rec: &[u8], t: &NetWords) -> u32
     sum + last
 }
 
-// The transfers of the whole trail: MOVED of every activity, and once closed the objects.
+// The transfers of the whole trail: MOVED of every activity, and once closed the objects that the close takes (`closers`: all of them).
 fn transfers(rec: &[u8], t: &NetWords) -> u32
     requires { ⌜ Ready (now t) (now rec) ⌝ }
     ensures { λ r. ⌜ r ≡ storedTransfers (netIn (now (t .entry))) (stateAt (now (rec .entry))) ⌝ }

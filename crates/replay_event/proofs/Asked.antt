@@ -16,10 +16,11 @@ use Rattle.net.specs.Net.{Net, GoodArc, takes, inputOf, outputOf}
 use Rattle.net.specs.Held.{netIn}
 use Rattle.net.proofs.IndexLaws.{arc-has}
 use Rattle.replay.specs.Plain.{objectKinds, objectTests}
-use Rattle.replay.specs.Record.{counts, contents, encode, tableIn, stateIn}
+use Rattle.replay.specs.Record.{counts, countsSize, contents, encode, tableIn, stateIn}
 use Rattle.replay.specs.Calls.{netAt, stateAt}
-use Rattle.replay_objects.specs.Offsets.{layoutOf}
+use Rattle.replay_objects.specs.Offsets.{layoutOf, eventsAt, jumpsAt}
 use Rattle.replay.specs.Ready.{Ready, KnownKinds}
+use Rattle.replay.specs.Register.{kindsIn}
 use Rattle.replay_event.specs.Answers.{ObjectCode, Counted, Moving}
 use Rattle.replay_objects.specs.declared.layout.Layout.{Layout}
 use Rattle.replay.proofs.Encode.{fit-kinds}
@@ -42,17 +43,17 @@ module _ (w b : List ℕ) (l : Layout) (R : Ready w b) (e : l ≡ layoutOf (netI
   placed : Placed (netIn w) (tableIn b) l (stateAt b)
   placed = placed-at w b l R e
 
-  pub count-in : (i : ℕ) → i < 3 + 2 * netIn w .acts → l .counts + i < length (wordsOf b)
+  pub count-in : (i : ℕ) → i < countsSize (netIn w) → l .counts + i < length (wordsOf b)
   count-in i h = omega (arith, words-size w b l R e, placed .pairs-at)
 
-  pub events-read : getD (wordsOf b) (l .counts + 1) 0 ≡ stateAt b .events
-  events-read = ap (λ (v : List ℕ). getD v (l .counts + 1) 0) (ready-words w b R) ∙ get-events (netIn w) (tableIn b) l (stateAt b) placed
+  pub events-read : getD (wordsOf b) (eventsAt l) 0 ≡ stateAt b .events
+  events-read = ap (λ (v : List ℕ). getD v (eventsAt l) 0) (ready-words w b R) ∙ get-events (netIn w) (tableIn b) l (stateAt b) placed
 
   -- the register's bytes, and the kinds that they hold
   pub register-fits : (4 * l .register ≤ 4 * l .positions) × (4 * l .positions ≤ length b) × (length b ≤ maxRecord)
   register-fits = omega (arith, words-size w b l R e, words-few w b l R e, ready-length w b R, placed .positions-at, placed .counts-at, placed .pairs-at)
 
-  pub register-words : wordsOf (take (4 * l .positions - 4 * l .register) (drop (4 * l .register) b)) ≡ stateAt b .kinds
+  pub register-words : kindsIn (netIn w) (take (4 * l .positions - 4 * l .register) (drop (4 * l .register) b)) ≡ stateAt b .kinds
   unfolding encode stateAt
   register-words =
       let d = stateIn (netAt b) b in
@@ -65,7 +66,7 @@ module _ (w b : List ℕ) (l : Layout) (R : Ready w b) (e : l ≡ layoutOf (netI
       ∙ ap wordsOf (take-at (bytesOf (d .kinds)) rest _ m)
       ∙ words-of-bytes (d .kinds) (fit-kinds (netIn w) (ready-loaded w b R) (stateAt b) (ready-sound w b R))
 
-  pub register-known : KnownKinds (netIn w) (wordsOf (take (4 * l .positions - 4 * l .register) (drop (4 * l .register) b)))
+  pub register-known : KnownKinds (netIn w) (kindsIn (netIn w) (take (4 * l .positions - 4 * l .register) (drop (4 * l .register) b)))
   register-known = rw register-words (record { kind = λ o h. kind-of-in w b l R e o (omega (arith, placed .kinds-size)) })
 
 module _ (w b : List ℕ) (l : Layout) (a : ℕ) (os : List ℕ) (C : Counted w b l a os) where
@@ -86,7 +87,7 @@ module _ (w b : List ℕ) (l : Layout) (a : ℕ) (os : List ℕ) (M : Moving w b
   kind-is i h = map-at (λ (o : ℕ). getD (stateAt b .kinds) o 0) 0 0 os i h
 
   -- the jumps of the activity are one of the counts
-  pub own-in : (l .counts + (4 + 2 * a) < l .pairs) × (l .pairs ≤ maxWords)
+  pub own-in : (jumpsAt l a < l .pairs) × (l .pairs ≤ maxWords)
   own-in =
       (omega (arith, M .counted .act-in, laid .pairs-at), omega (arith, words-size w b l (M .counted .ready) (M .counted .lay), words-few w b l (M .counted .ready) (M .counted .lay)))
 

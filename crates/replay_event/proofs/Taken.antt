@@ -1,5 +1,5 @@
 -- What is left of an accepted event once its objects are moved. Assumes nothing.
-use Prim.Native.Nat.{ℕ, suc, _+_, _*_}
+use Prim.Native.Nat.{ℕ, suc}
 use mathlib.Core.Path.{_≡_, refl, ap, _∙_}
 use mathlib.Core.List.{List, map}
 use native.Mathlib.Omega.{arith}
@@ -9,7 +9,7 @@ use Rattle.replay.specs.Plain.{Leg, Hop, legs, eventOf, askEvent}
 use Rattle.replay.specs.State.{State, withEvents, bump, hopIndex, leapsOf, actJumps, afterLegs, afterEvent, answerS}
 use Rattle.replay.specs.Record.{recordWords, tableIn}
 use Rattle.replay.specs.Calls.{stateAt}
-use Rattle.replay_objects.specs.Offsets.{layoutOf}
+use Rattle.replay_objects.specs.Offsets.{layoutOf, eventsAt, firedAt}
 use Rattle.replay.specs.Ready.{Ready}
 use Rattle.replay_moves.specs.Moves.{CanAdd}
 use Rattle.replay_event.specs.Answers.{Moving}
@@ -40,24 +40,24 @@ module _ (w b : List ℕ) (l : Layout) (a : ℕ) (os : List ℕ) (M : Moving w b
   placed-events = placed-same (netIn w) (tableIn b) l m (withEvents m (suc (d .events))) placed refl refl refl refl refl
 
   -- the event is counted
-  events-more : bump (recordWords (tableIn b) m) (l .counts + 1) ≡ recordWords (tableIn b) (withEvents m (suc (d .events)))
-  events-more = ap (λ (v : ℕ). set (recordWords (tableIn b) m) (l .counts + 1) (suc v)) (get-events (netIn w) (tableIn b) l m placed) ∙ put-events (netIn w) (tableIn b) l m placed (suc (d .events))
+  events-more : bump (recordWords (tableIn b) m) (eventsAt l) ≡ recordWords (tableIn b) (withEvents m (suc (d .events)))
+  events-more = ap (λ (v : ℕ). set (recordWords (tableIn b) m) (eventsAt l) (suc v)) (get-events (netIn w) (tableIn b) l m placed) ∙ put-events (netIn w) (tableIn b) l m placed (suc (d .events))
 
-  fired-more : bump (recordWords (tableIn b) (withEvents m (suc (d .events)))) (l .counts + (3 + 2 * a)) ≡ recordWords (tableIn b) (afterEvent (netIn w) d (eventOf a os))
+  fired-more : bump (recordWords (tableIn b) (withEvents m (suc (d .events)))) (firedAt l a) ≡ recordWords (tableIn b) (afterEvent (netIn w) d (eventOf a os))
   fired-more =
-      ap (λ (v : ℕ). set (recordWords (tableIn b) (withEvents m (suc (d .events)))) (l .counts + (3 + 2 * a)) (suc v)) (get-fired (netIn w) (tableIn b) l (withEvents m (suc (d .events))) placed-events a (M .counted .act-in))
+      ap (λ (v : ℕ). set (recordWords (tableIn b) (withEvents m (suc (d .events)))) (firedAt l a) (suc v)) (get-fired (netIn w) (tableIn b) l (withEvents m (suc (d .events))) placed-events a (M .counted .act-in))
       ∙ put-fired (netIn w) (tableIn b) l (withEvents m (suc (d .events))) placed-events a (suc (getD (d .fired) a 0)) (M .counted .act-in)
 
-  pub event-counted : bump (bump (recordWords (tableIn b) m) (l .counts + 1)) (l .counts + (3 + 2 * a)) ≡ recordWords (tableIn b) (afterEvent (netIn w) d (eventOf a os))
-  event-counted = ap (λ (v : List ℕ). bump v (l .counts + (3 + 2 * a))) events-more ∙ fired-more
+  pub event-counted : bump (bump (recordWords (tableIn b) m) (eventsAt l)) (firedAt l a) ≡ recordWords (tableIn b) (afterEvent (netIn w) d (eventOf a os))
+  event-counted = ap (λ (v : List ℕ). bump v (firedAt l a)) events-more ∙ fired-more
 
-  pub can-events : CanAdd (l .counts + 1) 1 (recordWords (tableIn b) m)
+  pub can-events : CanAdd (eventsAt l) 1 (recordWords (tableIn b) m)
   can-events = record {
     inside = omega (arith, record-size (netIn w) (tableIn b) l m placed, placed .pairs-at);
     room = omega (arith, get-events (netIn w) (tableIn b) l m placed, ready-sound w b (M .counted .ready) .events);
   }
 
-  pub can-fired : CanAdd (l .counts + (3 + 2 * a)) 1 (bump (recordWords (tableIn b) m) (l .counts + 1))
+  pub can-fired : CanAdd (firedAt l a) 1 (bump (recordWords (tableIn b) m) (eventsAt l))
   can-fired = let R = M .counted .ready in let h = M .counted .act-in in rw events-more (record {
     inside = omega (arith, record-size (netIn w) (tableIn b) l (withEvents m (suc (d .events))) placed-events, placed .pairs-at);
     room = omega (arith, get-fired (netIn w) (tableIn b) l (withEvents m (suc (d .events))) placed-events a h, fired-le (netIn w) (ready-loaded w b R) d (ready-sound w b R) a h);

@@ -7,9 +7,9 @@ use lib.ListN.{length, getD}
 use Rattle.words.specs.Words.{wordsOf}
 use Rattle.words.proofs.Lists.{All-at}
 use Rattle.net.specs.Held.{netIn}
-use Rattle.replay.specs.Record.{tableIn}
+use Rattle.replay.specs.Record.{countsSize, tableIn}
 use Rattle.replay.specs.Calls.{stateAt}
-use Rattle.replay_objects.specs.Offsets.{layoutOf}
+use Rattle.replay_objects.specs.Offsets.{layoutOf, closedAt}
 use Rattle.replay.specs.Ready.{Ready}
 use Rattle.replay_objects.specs.declared.layout.Layout.{Layout}
 use Rattle.replay_objects.proofs.RecordLaws.{Placed, record-size, record-few, get-closed, ready-sound, ready-words, ready-placed}
@@ -25,14 +25,14 @@ module _ (w b : List ℕ) (l : Layout) (R : Ready w b) (e : l ≡ layoutOf (netI
   pub words-few : length (wordsOf b) ≤ maxWords
   words-few = rw (ready-words w b R) (record-few (netIn w) (tableIn b) l (stateAt b) placed-at)
 
-  pub counts-few : l .counts + (3 + 2 * netIn w .acts) ≤ maxWords
+  pub counts-few : l .counts + countsSize (netIn w) ≤ maxWords
   counts-few = omega (arith, words-size, words-few, placed-at .pairs-at)
 
-  pub closed-in : l .counts < length (wordsOf b)
+  pub closed-in : closedAt l < length (wordsOf b)
   closed-in = omega (arith, words-size, placed-at .pairs-at)
 
-  pub closed-read : getD (wordsOf b) (l .counts) 0 ≡ stateAt b .closed
-  closed-read = ap (λ (v : List ℕ). getD v (l .counts) 0) (ready-words w b R) ∙ get-closed (netIn w) (tableIn b) l (stateAt b) placed-at
+  pub closed-read : getD (wordsOf b) (closedAt l) 0 ≡ stateAt b .closed
+  closed-read = ap (λ (v : List ℕ). getD v (closedAt l) 0) (ready-words w b R) ∙ get-closed (netIn w) (tableIn b) l (stateAt b) placed-at
 
   -- an object's kind
   pub kind-of-in : (o : ℕ) → o < l .objects → getD (stateAt b .kinds) o 0 < netIn w .kinds

@@ -16,7 +16,8 @@ use Rattle.replay.specs.Plain.{Leg, Hop, walked}
 use Rattle.replay.specs.State.{State, withPlaces, withClosing, withJumps, withPairs, bump, hopIndex, actJumps, closeJumps}
 use Rattle.replay.specs.Record.{recordWords}
 use Rattle.replay.specs.Claims.{judged}
-use Rattle.replay_moves.specs.Moves.{placeAt, pairAt, raise, jumpsTo, goWords, CanAdd, CanMove}
+use Rattle.replay_objects.specs.Offsets.{kindAt, placeAt, closingAt, jumpsAt, pairAt}
+use Rattle.replay_moves.specs.Moves.{raise, jumpsTo, goWords, CanAdd, CanMove}
 use Rattle.replay_objects.specs.declared.layout.Layout.{Layout}
 use Rattle.replay_objects.proofs.RecordLaws.{Placed, placed-same, record-size, record-few, get-kind, get-place, get-pair, get-jumps, get-closing, put-place, put-pair, put-jumps, put-closing}
 use Rattle.replay.specs.Limits.{maxWords}
@@ -179,13 +180,13 @@ module _ (N : Net) (table : List ℕ) (l : Layout) (b own s : ℕ) (d : State) (
   sum-few = omega (arith, length-set w own (getD w own 0 + s), ap length (W .words), record-few N table l d (W .placed))
 
   -- the register's numbers
-  pub register-in : (o : ℕ) → o < l .objects → l .register + o < length w
+  pub register-in : (o : ℕ) → o < l .objects → kindAt l o < length w
   register-in o h = omega (arith, size, W .placed .positions-at, W .placed .counts-at, W .placed .pairs-at)
 
-  pub register-kind : (ks : List ℕ) → d .kinds ≡ ks → (o : ℕ) → o < l .objects → getD w (l .register + o) 0 ≡ getD ks o 0
+  pub register-kind : (ks : List ℕ) → d .kinds ≡ ks → (o : ℕ) → o < l .objects → getD w (kindAt l o) 0 ≡ getD ks o 0
   register-kind ks e o h =
-      other (l .register + o) (λ q. omega (arith, S .low, W .placed .positions-at, W .placed .counts-at))
-      ∙ ap (λ (v : List ℕ). getD v (l .register + o) 0) (W .words) ∙ get-kind N table l d (W .placed) o h ∙ ap (λ (x : List ℕ). getD x o 0) e
+      other (kindAt l o) (λ q. omega (arith, S .low, W .placed .positions-at, W .placed .counts-at))
+      ∙ ap (λ (v : List ℕ). getD v (kindAt l o) 0) (W .words) ∙ get-kind N table l d (W .placed) o h ∙ ap (λ (x : List ℕ). getD x o 0) e
 
   -- the sum can be added
   pub can-add-sum : b ≤ 4294967296 → CanAdd own s w
@@ -222,9 +223,9 @@ pub record Counter (N : Net) (table : List ℕ) (l : Layout) (at a : ℕ) (own :
 
 -- an event's jumps, and the close's
 module _ (N : Net) (table : List ℕ) (l : Layout) where
-  pub act-counter : (a : ℕ) → a < N .acts → Counter N table l (l .counts + (4 + 2 * a)) a actJumps
+  pub act-counter : (a : ℕ) → a < N .acts → Counter N table l (jumpsAt l a) a actJumps
   act-counter a i = record {
-    adds = λ e h q P. ap (λ (v : ℕ). set (recordWords table e) (l .counts + (4 + 2 * a)) (suc v)) (get-jumps N table l e P a i) ∙ put-jumps N table l e P a (suc (getD (e .jumps) a 0)) i
+    adds = λ e h q P. ap (λ (v : ℕ). set (recordWords table e) (jumpsAt l a) (suc v)) (get-jumps N table l e P a i) ∙ put-jumps N table l e P a (suc (getD (e .jumps) a 0)) i
         ∙ ap (λ (c : ℕ). recordWords table (withJumps e (bump (e .jumps) c))) (sym q);
     keeps = λ e h P. placed-same N table l e (actJumps e (h ∷ [])) P refl refl refl (length-set (e .jumps) (h .act) _) refl;
     kinds = λ e h. refl;
@@ -234,10 +235,10 @@ module _ (N : Net) (table : List ℕ) (l : Layout) where
     next = λ e ps js h hs. refl;
   }
 
-  pub close-counter : Counter N table l (l .counts + 2) (N .acts) closeJumps
+  pub close-counter : Counter N table l (closingAt l) (N .acts) closeJumps
   close-counter = record {
     adds = λ e h q P. let z : suc (e .closing) ≡ e .closing + 1 = omega arith in
-        ap (λ (v : ℕ). set (recordWords table e) (l .counts + 2) (suc v)) (get-closing N table l e P) ∙ put-closing N table l e P (suc (e .closing)) ∙ ap (λ (n : ℕ). recordWords table (withClosing e n)) z;
+        ap (λ (v : ℕ). set (recordWords table e) (closingAt l) (suc v)) (get-closing N table l e P) ∙ put-closing N table l e P (suc (e .closing)) ∙ ap (λ (n : ℕ). recordWords table (withClosing e n)) z;
     keeps = λ e h P. placed-same N table l e (closeJumps e (h ∷ [])) P refl refl refl refl refl;
     kinds = λ e h. refl;
     places = λ e h. refl;
@@ -284,8 +285,7 @@ module _ (N : Net) (table : List ℕ) (l : Layout) (at a : ℕ) (own : State →
         i = hopIndex N h
 
         pair : bump (recordWords table d) (pairAt l (h .from) (h .to)) ≡ recordWords table (withPairs d (bump (d .pairs) i))
-        pair = ap (λ (n : ℕ). bump (recordWords table d) (l .pairs + (h .from * n + h .to))) (P .places-are)
-            ∙ ap (λ (v : ℕ). set (recordWords table d) (l .pairs + i) (suc v)) (get-pair N table l d P i) ∙ put-pair N table l d P i (suc (getD (d .pairs) i 0))
+        pair = ap (λ (v : ℕ). set (recordWords table d) (pairAt l (h .from) (h .to)) (suc v)) (get-pair N table l d P (h .from) (h .to)) ∙ put-pair N table l d P (h .from) (h .to) (suc (getD (d .pairs) i 0))
 
         go : (c : Bool) → pick c (recordWords table d) (bump (bump (recordWords table d) (pairAt l (h .from) (h .to))) at) ≡ recordWords table (pick c d (own (withPairs d (bump (d .pairs) i)) (h ∷ [])))
         go true = refl

@@ -1,18 +1,12 @@
 -- What moving an object does to a record, as a list of four-byte numbers, and what it asks of the record.
-use Prim.Native.Nat.{ℕ, _+_, _*_, _≤_, _<_}
+use Prim.Native.Nat.{ℕ, _+_, _≤_, _<_}
 use mathlib.Core.List.{List}
 use lib.ListN.{length, getD, set}
 use lib.Dec.{eqb}
 use Rattle.words.specs.Lists.{pick}
 use Rattle.replay_objects.specs.declared.layout.Layout.{Layout}
+use Rattle.replay_objects.specs.Offsets.{placeAt, pairAt}
 use Rattle.replay.specs.Limits.{maxWords}
-
--- where the place of object o stands, and the jump count of the pair (p, q)
-abbrev pub placeAt : Layout → ℕ → ℕ
-placeAt l o = l .positions + o
-
-abbrev pub pairAt : Layout → ℕ → ℕ → ℕ
-pairAt l p q = l .pairs + (p * l .places + q)
 
 -- number i is d more
 abbrev pub raise : List ℕ → ℕ → ℕ → List ℕ

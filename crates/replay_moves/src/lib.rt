@@ -2,6 +2,9 @@
 // Above `replay`, whose layout it uses. `replay_event` and `replay_close` move objects by it, and share its laws.
 
 use replay_objects::layout::Layout;
+use replay_objects::layout::get_place;
+use replay_objects::layout::pair_index;
+use replay_objects::layout::put_place;
 ghost use mathlib.Core.Path.{_≡_};
 ghost use Prim.Native.Nat.{_+_, _≤_};
 ghost use lib.Dec.{eqb};
@@ -51,9 +54,9 @@ pub fn move_object(rec: &mut [u8], lay: Layout, o: usize, inp: usize, out: u32) 
     requires { ⌜ CanMove lay o inp (wordsOf (now rec)) ⌝ }
     ensures { λ r. ⌜ (wordsOf (now (rec .exit)) ≡ goWords lay o inp out (wordsOf (now (rec .entry)))) × (r ≡ jumpsTo lay o inp (wordsOf (now (rec .entry)))) × (r ≤ 1) ⌝ }
 {
-    let at = words::get_behind(rec, lay.positions, o) as usize;
+    let at = words::wide(get_place(rec, lay, o));
     let d = jumps(at, inp);
-    add_behind(rec, lay.pairs, at * lay.places + inp, d);
-    words::put_behind(rec, lay.positions, o, out);
+    add_behind(rec, lay.pairs, pair_index(lay, at, inp), d);
+    put_place(rec, lay, o, out);
     d
 }

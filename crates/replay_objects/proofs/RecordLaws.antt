@@ -12,11 +12,11 @@ use Rattle.net.specs.Net.{Net, Loaded}
 use Rattle.net.specs.Held.{netIn}
 use Rattle.net.proofs.HeldLaws.{held-loaded}
 use Rattle.replay_objects.specs.declared.layout.Layout.{Layout}
-use Rattle.replay.specs.State.{State, withPlaces, withClosed, withEvents, withClosing, withFired, withJumps, withPairs}
+use Rattle.replay.specs.State.{State, withPlaces, withClosed, withEvents, withClosing, withFired, withJumps, withPairs, pairIndex, storedPair}
 use Rattle.replay.specs.Sound.{Sound}
-use Rattle.replay.specs.Record.{interleave, counts, encode, recordWords, tableIn, stateIn}
+use Rattle.replay.specs.Record.{interleave, counts, countsSize, encode, recordWords, tableIn, stateIn}
 use Rattle.replay.specs.Calls.{netAt, stateAt}
-use Rattle.replay_objects.specs.Offsets.{layoutOf}
+use Rattle.replay_objects.specs.Offsets.{layoutOf, kindAt, placeAt, closedAt, eventsAt, closingAt, firedAt, jumpsAt, pairAt}
 use Rattle.replay.specs.Ready.{Ready}
 use Rattle.replay.proofs.Interleave.{length-interleave, interleave-even, interleave-odd, interleave-set-even, interleave-set-odd}
 use Rattle.replay.proofs.Encode.{Laid, intact-laid, counts-size, words-encode, bytes-encode}
@@ -25,9 +25,9 @@ use Rattle.replay.specs.Limits.{maxWords}
 -- l is the layout of a record of a table and the state d, of the net N: how large the parts are, and what follows what
 pub record Placed (N : Net) (table : List ℕ) (l : Layout) (d : State) : Type 0 where
   pub register-at : 10 + length (wordsOf table) ≡ l .register
-  pub positions-at : l .register + l .objects ≡ l .positions
-  pub counts-at : l .positions + l .objects ≡ l .counts
-  pub pairs-at : l .counts + (3 + 2 * N .acts) ≡ l .pairs
+  pub positions-at : kindAt l (l .objects) ≡ l .positions
+  pub counts-at : placeAt l (l .objects) ≡ l .counts
+  pub pairs-at : l .counts + countsSize N ≡ l .pairs
   pub places-are : l .places ≡ N .places
   pub kinds-size : length (d .kinds) ≡ l .objects
   pub places-size : length (d .places) ≡ l .objects
@@ -146,7 +146,7 @@ set-three : (x y z : ℕ) (r : List ℕ) (m i v : ℕ) → m ≡ suc (suc (suc i
 set-three x y z r m i v e = rw e
 
 module _ (N : Net) (table : List ℕ) (l : Layout) (d : State) (P : Placed N table l d) where
-  counts-length : length (counts d) ≡ 3 + 2 * N .acts
+  counts-length : length (counts d) ≡ countsSize N
   counts-length = omega (arith, length-interleave (d .fired) (d .jumps) (P .fired-size ∙ sym (P .jumps-size)), P .fired-size)
 
   -- how many numbers there are
@@ -157,65 +157,71 @@ module _ (N : Net) (table : List ℕ) (l : Layout) (d : State) (P : Placed N tab
   record-few = omega (arith, record-size, mul-le-mul (P .places-few) (P .places-few), P .register-at, P .positions-at, P .counts-at, P .pairs-at, P .table-few, P .objects-few, P .acts-few)
 
   -- reading
-  pub get-kind : (o : ℕ) → o < l .objects → getD (recordWords table d) (l .register + o) 0 ≡ getD (d .kinds) o 0
-  get-kind o h = at-ks table (d .kinds) (d .places) (counts d) (d .pairs) (l .register + o) o (omega (arith, P .register-at)) (omega (arith, P .kinds-size))
+  pub get-kind : (o : ℕ) → o < l .objects → getD (recordWords table d) (kindAt l o) 0 ≡ getD (d .kinds) o 0
+  get-kind o h = at-ks table (d .kinds) (d .places) (counts d) (d .pairs) (kindAt l o) o (omega (arith, P .register-at)) (omega (arith, P .kinds-size))
 
-  pub get-place : (o : ℕ) → o < l .objects → getD (recordWords table d) (l .positions + o) 0 ≡ getD (d .places) o 0
-  get-place o h = at-ps table (d .kinds) (d .places) (counts d) (d .pairs) (l .positions + o) o (omega (arith, P .register-at, P .positions-at, P .kinds-size)) (omega (arith, P .places-size))
+  pub get-place : (o : ℕ) → o < l .objects → getD (recordWords table d) (placeAt l o) 0 ≡ getD (d .places) o 0
+  get-place o h = at-ps table (d .kinds) (d .places) (counts d) (d .pairs) (placeAt l o) o (omega (arith, P .register-at, P .positions-at, P .kinds-size)) (omega (arith, P .places-size))
 
-  get-count : (i : ℕ) → i < 3 + 2 * N .acts → getD (recordWords table d) (l .counts + i) 0 ≡ getD (counts d) i 0
+  get-count : (i : ℕ) → i < countsSize N → getD (recordWords table d) (l .counts + i) 0 ≡ getD (counts d) i 0
   get-count i h = at-cs table (d .kinds) (d .places) (counts d) (d .pairs) (l .counts + i) i (omega (arith, P .register-at, P .positions-at, P .counts-at, P .kinds-size, P .places-size)) (omega (arith, counts-length))
 
   -- all counts, those of the pairs behind the others
   pub get-tail : (i : ℕ) → getD (recordWords table d) (l .counts + i) 0 ≡ getD (counts d ++ d .pairs) i 0
   get-tail i = at-r3 table (d .kinds) (d .places) (counts d) (d .pairs) (l .counts + i) i (omega (arith, P .register-at, P .positions-at, P .counts-at, P .kinds-size, P .places-size))
 
-  pub get-closed : getD (recordWords table d) (l .counts) 0 ≡ d .closed
-  get-closed = let z : l .counts ≡ l .counts + 0 = omega arith in ap (λ (i : ℕ). getD (recordWords table d) i 0) z ∙ get-count 0 (omega arith)
+  pub get-closed : getD (recordWords table d) (closedAt l) 0 ≡ d .closed
+  get-closed = let z : closedAt l ≡ l .counts + 0 = omega arith in ap (λ (i : ℕ). getD (recordWords table d) i 0) z ∙ get-count 0 (omega arith)
 
-  pub get-events : getD (recordWords table d) (l .counts + 1) 0 ≡ d .events
+  pub get-events : getD (recordWords table d) (eventsAt l) 0 ≡ d .events
   get-events = get-count 1 (omega arith)
 
-  pub get-closing : getD (recordWords table d) (l .counts + 2) 0 ≡ d .closing
+  pub get-closing : getD (recordWords table d) (closingAt l) 0 ≡ d .closing
   get-closing = get-count 2 (omega arith)
 
-  pub get-fired : (a : ℕ) → a < N .acts → getD (recordWords table d) (l .counts + (3 + 2 * a)) 0 ≡ getD (d .fired) a 0
+  pub get-fired : (a : ℕ) → a < N .acts → getD (recordWords table d) (firedAt l a) 0 ≡ getD (d .fired) a 0
   get-fired a h = get-count (3 + 2 * a) (omega arith) ∙ past-three _ _ _ (interleave (d .fired) (d .jumps)) (3 + 2 * a) (2 * a) (omega arith) ∙ interleave-even (d .fired) (d .jumps) a (P .fired-size ∙ sym (P .jumps-size))
 
-  pub get-jumps : (a : ℕ) → a < N .acts → getD (recordWords table d) (l .counts + (4 + 2 * a)) 0 ≡ getD (d .jumps) a 0
+  pub get-jumps : (a : ℕ) → a < N .acts → getD (recordWords table d) (jumpsAt l a) 0 ≡ getD (d .jumps) a 0
   get-jumps a h = get-count (4 + 2 * a) (omega arith) ∙ past-three _ _ _ (interleave (d .fired) (d .jumps)) (4 + 2 * a) (2 * a + 1) (omega arith) ∙ interleave-odd (d .fired) (d .jumps) a (P .fired-size ∙ sym (P .jumps-size))
 
-  pub get-pair : (i : ℕ) → getD (recordWords table d) (l .pairs + i) 0 ≡ getD (d .pairs) i 0
-  get-pair i = at-js table (d .kinds) (d .places) (counts d) (d .pairs) (l .pairs + i) i (omega (arith, P .register-at, P .positions-at, P .counts-at, P .pairs-at, P .kinds-size, P .places-size, counts-length))
+  get-pairs : (i : ℕ) → getD (recordWords table d) (l .pairs + i) 0 ≡ getD (d .pairs) i 0
+  get-pairs i = at-js table (d .kinds) (d .places) (counts d) (d .pairs) (l .pairs + i) i (omega (arith, P .register-at, P .positions-at, P .counts-at, P .pairs-at, P .kinds-size, P .places-size, counts-length))
+
+  pub get-pair : (x y : ℕ) → getD (recordWords table d) (pairAt l x y) 0 ≡ storedPair N d x y
+  get-pair x y = get-pairs (x * l .places + y) ∙ ap (λ (n : ℕ). getD (d .pairs) (x * n + y) 0) (P .places-are)
 
   -- writing
-  pub put-place : (o v : ℕ) → o < l .objects → set (recordWords table d) (l .positions + o) v ≡ recordWords table (withPlaces d (set (d .places) o v))
-  put-place o v h = set-ps table (d .kinds) (d .places) (counts d) (d .pairs) (l .positions + o) o v (omega (arith, P .register-at, P .positions-at, P .kinds-size)) (omega (arith, P .places-size))
+  pub put-place : (o v : ℕ) → o < l .objects → set (recordWords table d) (placeAt l o) v ≡ recordWords table (withPlaces d (set (d .places) o v))
+  put-place o v h = set-ps table (d .kinds) (d .places) (counts d) (d .pairs) (placeAt l o) o v (omega (arith, P .register-at, P .positions-at, P .kinds-size)) (omega (arith, P .places-size))
 
-  put-count : (i v : ℕ) (e : State) → i < 3 + 2 * N .acts → set (counts d) i v ≡ counts e → e .kinds ≡ d .kinds → e .places ≡ d .places → e .pairs ≡ d .pairs
+  put-count : (i v : ℕ) (e : State) → i < countsSize N → set (counts d) i v ≡ counts e → e .kinds ≡ d .kinds → e .places ≡ d .places → e .pairs ≡ d .pairs
       → set (recordWords table d) (l .counts + i) v ≡ recordWords table e
   put-count i v e h q ek ep ej = set-cs table (d .kinds) (d .places) (counts d) (d .pairs) (l .counts + i) i v (omega (arith, P .register-at, P .positions-at, P .counts-at, P .kinds-size, P .places-size)) (omega (arith, counts-length))
       ∙ rw (q, ← ek, ← ep, ← ej)
 
-  pub put-closed : (v : ℕ) → set (recordWords table d) (l .counts) v ≡ recordWords table (withClosed d v)
-  put-closed v = let z : l .counts ≡ l .counts + 0 = omega arith in ap (λ (i : ℕ). set (recordWords table d) i v) z ∙ put-count 0 v (withClosed d v) (omega arith) refl refl refl refl
+  pub put-closed : (v : ℕ) → set (recordWords table d) (closedAt l) v ≡ recordWords table (withClosed d v)
+  put-closed v = let z : closedAt l ≡ l .counts + 0 = omega arith in ap (λ (i : ℕ). set (recordWords table d) i v) z ∙ put-count 0 v (withClosed d v) (omega arith) refl refl refl refl
 
-  pub put-events : (v : ℕ) → set (recordWords table d) (l .counts + 1) v ≡ recordWords table (withEvents d v)
+  pub put-events : (v : ℕ) → set (recordWords table d) (eventsAt l) v ≡ recordWords table (withEvents d v)
   put-events v = put-count 1 v (withEvents d v) (omega arith) refl refl refl refl
 
-  pub put-closing : (v : ℕ) → set (recordWords table d) (l .counts + 2) v ≡ recordWords table (withClosing d v)
+  pub put-closing : (v : ℕ) → set (recordWords table d) (closingAt l) v ≡ recordWords table (withClosing d v)
   put-closing v = put-count 2 v (withClosing d v) (omega arith) refl refl refl refl
 
-  pub put-fired : (a v : ℕ) → a < N .acts → set (recordWords table d) (l .counts + (3 + 2 * a)) v ≡ recordWords table (withFired d (set (d .fired) a v))
+  pub put-fired : (a v : ℕ) → a < N .acts → set (recordWords table d) (firedAt l a) v ≡ recordWords table (withFired d (set (d .fired) a v))
   put-fired a v h = put-count (3 + 2 * a) v (withFired d (set (d .fired) a v)) (omega arith)
       (set-three _ _ _ (interleave (d .fired) (d .jumps)) (3 + 2 * a) (2 * a) v (omega arith) ∙ ap (λ (r : List ℕ). d .closed ∷ d .events ∷ d .closing ∷ r) (sym (interleave-set-even (d .fired) (d .jumps) a v))) refl refl refl
 
-  pub put-jumps : (a v : ℕ) → a < N .acts → set (recordWords table d) (l .counts + (4 + 2 * a)) v ≡ recordWords table (withJumps d (set (d .jumps) a v))
+  pub put-jumps : (a v : ℕ) → a < N .acts → set (recordWords table d) (jumpsAt l a) v ≡ recordWords table (withJumps d (set (d .jumps) a v))
   put-jumps a v h = put-count (4 + 2 * a) v (withJumps d (set (d .jumps) a v)) (omega arith)
       (set-three _ _ _ (interleave (d .fired) (d .jumps)) (4 + 2 * a) (2 * a + 1) v (omega arith) ∙ ap (λ (r : List ℕ). d .closed ∷ d .events ∷ d .closing ∷ r) (sym (interleave-set-odd (d .fired) (d .jumps) a v))) refl refl refl
 
-  pub put-pair : (i v : ℕ) → set (recordWords table d) (l .pairs + i) v ≡ recordWords table (withPairs d (set (d .pairs) i v))
-  put-pair i v = set-js table (d .kinds) (d .places) (counts d) (d .pairs) (l .pairs + i) i v (omega (arith, P .register-at, P .positions-at, P .counts-at, P .pairs-at, P .kinds-size, P .places-size, counts-length))
+  put-pairs : (i v : ℕ) → set (recordWords table d) (l .pairs + i) v ≡ recordWords table (withPairs d (set (d .pairs) i v))
+  put-pairs i v = set-js table (d .kinds) (d .places) (counts d) (d .pairs) (l .pairs + i) i v (omega (arith, P .register-at, P .positions-at, P .counts-at, P .pairs-at, P .kinds-size, P .places-size, counts-length))
+
+  pub put-pair : (x y v : ℕ) → set (recordWords table d) (pairAt l x y) v ≡ recordWords table (withPairs d (set (d .pairs) (pairIndex N x y) v))
+  put-pair x y v = put-pairs (x * l .places + y) v ∙ ap (λ (n : ℕ). recordWords table (withPairs d (set (d .pairs) (x * n + y) v))) (P .places-are)
 
 -- bytes of a part
 take-small : (n : ℕ) (s : List ℕ) → ((i : ℕ) → getD s i 0 < 256) → (i : ℕ) → getD (take n s) i 0 < 256

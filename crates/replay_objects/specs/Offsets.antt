@@ -1,5 +1,5 @@
--- Where the parts of a desk record stand, by its contents, counted in four-byte numbers.
-use Prim.Native.Nat.{ℕ, _/_}
+-- Where the parts of a desk record stand, by its contents, counted in four-byte numbers. Each offset is said here alone.
+use Prim.Native.Nat.{ℕ, _+_, _*_, _/_}
 use mathlib.Core.List.{List}
 use Rattle.words.specs.Words.{word}
 use Rattle.net.specs.Net.{Net}
@@ -15,3 +15,30 @@ layoutOf N b = record {
   objects = word b 12 / 4;
   places = N .places;
 }
+
+-- object o's row of the register and of the positions: its kind, and its place
+abbrev pub kindAt : Layout → ℕ → ℕ
+kindAt l o = l .register + o
+
+abbrev pub placeAt : Layout → ℕ → ℕ
+placeAt l o = l .positions + o
+
+-- the counts: closed, accepted events, closing jumps, then FIRED and JUMPS of each activity
+abbrev pub closedAt : Layout → ℕ
+closedAt l = l .counts
+
+abbrev pub eventsAt : Layout → ℕ
+eventsAt l = l .counts + 1
+
+abbrev pub closingAt : Layout → ℕ
+closingAt l = l .counts + 2
+
+abbrev pub firedAt : Layout → ℕ → ℕ
+firedAt l a = l .counts + (3 + 2 * a)
+
+abbrev pub jumpsAt : Layout → ℕ → ℕ
+jumpsAt l a = l .counts + (4 + 2 * a)
+
+-- the jump count from place x to place y
+abbrev pub pairAt : Layout → ℕ → ℕ → ℕ
+pairAt l x y = l .pairs + (x * l .places + y)

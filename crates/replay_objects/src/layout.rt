@@ -1,12 +1,14 @@
-// Where the parts of a desk record stand, by the record's own contents.
+// Where the parts of a desk record stand, by the record's own contents, and the numbers of an object's rows. Each offset is worked out here alone.
 
 use net::NetWords;
 ghost use mathlib.Core.Path.{_≡_};
-ghost use Prim.Native.Nat.{_+_, _/_, _≤_};
-ghost use lib.ListN.{length};
-ghost use Rattle.words.specs.Words.{word};
+ghost use Prim.Native.Nat.{_+_, _/_, _≤_, _<_};
+ghost use lib.ListN.{length, getD};
+ghost use Rattle.words.specs.Words.{word, wordsOf};
+ghost use Rattle.words.specs.Put.{Put};
 ghost use Rattle.net.specs.Held.{netIn, Held};
-ghost use Rattle.replay_objects.specs.Offsets.{layoutOf};
+ghost use Rattle.replay.specs.Limits.{maxWords};
+ghost use Rattle.replay_objects.specs.Offsets.{layoutOf, kindAt, placeAt, closedAt, eventsAt, closingAt, firedAt, jumpsAt, pairAt};
 
 // Where the bodies behind the table start, counted in four-byte numbers, and how many objects and places there are.
 pub struct Layout {
@@ -40,4 +42,75 @@ pub fn read_layout(rec: &[u8], t: &NetWords) -> Layout
         objects: quarter(rec, 12),
         places: net_lookup::places(t),
     }
+}
+
+// The kind of object o. Rows are read and written as numbers behind their body's start: that is worked out once for all objects of an event.
+pub fn get_kind(rec: &[u8], lay: Layout, o: usize) -> u32
+    requires { ⌜ kindAt lay o < length (wordsOf (now rec)) ⌝ }
+    ensures { λ r. ⌜ r ≡ getD (wordsOf (now (rec .entry))) (kindAt lay o) 0 ⌝ }
+{
+    words::get_behind(rec, lay.register, o)
+}
+
+// The place of object o.
+pub fn get_place(rec: &[u8], lay: Layout, o: usize) -> u32
+    requires { ⌜ placeAt lay o < length (wordsOf (now rec)) ⌝ }
+    ensures { λ r. ⌜ r ≡ getD (wordsOf (now (rec .entry))) (placeAt lay o) 0 ⌝ }
+{
+    words::get_behind(rec, lay.positions, o)
+}
+
+// Place q becomes the place of object o; no other byte changes.
+pub fn put_place(rec: &mut [u8], lay: Layout, o: usize, q: u32)
+    requires { ⌜ placeAt lay o < length (wordsOf (now rec)) ⌝ }
+    ensures { λ _. ⌜ Put (now (rec .entry)) (placeAt lay o) q (now (rec .exit)) ⌝ }
+{
+    words::put_behind(rec, lay.positions, o, q);
+}
+
+// Where it stands whether the trail is closed.
+pub fn closed_at(lay: Layout) -> usize
+    ensures { λ r. ⌜ r ≡ closedAt lay ⌝ }
+{
+    lay.counts
+}
+
+// Where the accepted events stand.
+pub fn events_at(lay: Layout) -> usize
+    requires { ⌜ eventsAt lay ≤ maxWords ⌝ }
+    ensures { λ r. ⌜ r ≡ eventsAt lay ⌝ }
+{
+    lay.counts + 1
+}
+
+// Where the closing jumps stand.
+pub fn closing_at(lay: Layout) -> usize
+    requires { ⌜ closingAt lay ≤ maxWords ⌝ }
+    ensures { λ r. ⌜ r ≡ closingAt lay ⌝ }
+{
+    lay.counts + 2
+}
+
+// Where FIRED of activity a stands.
+pub fn fired_at(lay: Layout, a: usize) -> usize
+    requires { ⌜ firedAt lay a ≤ maxWords ⌝ }
+    ensures { λ r. ⌜ r ≡ firedAt lay a ⌝ }
+{
+    lay.counts + (3 + 2 * a)
+}
+
+// Where JUMPS of activity a stands.
+pub fn jumps_at(lay: Layout, a: usize) -> usize
+    requires { ⌜ jumpsAt lay a ≤ maxWords ⌝ }
+    ensures { λ r. ⌜ r ≡ jumpsAt lay a ⌝ }
+{
+    lay.counts + (4 + 2 * a)
+}
+
+// Where the jump count from place x to place y stands, behind the start of the pairs.
+pub fn pair_index(lay: Layout, x: usize, y: usize) -> usize
+    requires { ⌜ pairAt lay x y ≤ maxWords ⌝ }
+    ensures { λ r. ⌜ lay .pairs + r ≡ pairAt lay x y ⌝ }
+{
+    x * lay.places + y
 }

@@ -5,10 +5,10 @@ use mathlib.Core.List.{List}
 use lib.ListN.{length, take, drop}
 use lib.Seq.{take-append-seam}
 use borrow.Author.Tests.{eq-eqb}
-use Rattle.words.specs.Words.{wordsOf}
 use Rattle.net.specs.Table.{netOf}
 use Rattle.net.proofs.Promise.{table-size}
 use Rattle.replay.specs.Plain.{registerCode}
+use Rattle.replay.specs.Register.{kindsIn}
 use Rattle.replay.specs.Calls.{stateAt, startRecord, startCode, startBytes}
 use Rattle.replay.specs.Ready.{Ready}
 use Rattle.replay.proofs.Encode.{encode-le}
@@ -17,12 +17,12 @@ use Rattle.replay_start.specs.Startable.{Startable}
 use Rattle.replay_start.proofs.StartLaws.{begun, loaded, sound, table-few}
 use Rattle.replay.specs.Limits.{maxRecord}
 
-module _ (t table objects : List ℕ) (S : Startable t table objects) (ok : registerCode (netOf table) (wordsOf objects) ≡ 0) where
-  pub start-fits : length (startRecord table (wordsOf objects)) ≤ maxRecord
+module _ (t table objects : List ℕ) (S : Startable t table objects) (ok : registerCode (netOf table) (kindsIn (netOf table) objects) ≡ 0) where
+  pub start-fits : length (startRecord table (kindsIn (netOf table) objects)) ≤ maxRecord
   unfolding startRecord
   start-fits = encode-le (netOf table) (loaded t table objects S ok) table (begun table objects) (sound t table objects S ok) (table-few t table objects S ok)
 
-  pub ready-start : Ready t (startRecord table (wordsOf objects))
+  pub ready-start : Ready t (startRecord table (kindsIn (netOf table) objects))
   unfolding startRecord
   ready-start = let d = begun table objects in let good = S .tabled .taken in record {
     held = S .tabled .held;
@@ -31,7 +31,7 @@ module _ (t table objects : List ℕ) (S : Startable t table objects) (ok : regi
     whole = ap (λ (l : List ℕ). length l % 4) (table-at table good d (sound t table objects S ok)) ∙ table-size table good .2;
   }
 
-  pub state-start : stateAt (startRecord table (wordsOf objects)) ≡ begun table objects
+  pub state-start : stateAt (startRecord table (kindsIn (netOf table) objects)) ≡ begun table objects
   unfolding startRecord
   state-start = state-at table (S .tabled .taken) (begun table objects) (sound t table objects S ok)
 

@@ -21,8 +21,10 @@ use Rattle.replay.specs.Plain.{registerTests, registerCode}
 use Rattle.replay.specs.State.{State, startState}
 use Rattle.replay.specs.Sound.{Sound}
 use Rattle.replay.specs.Record.{interleave, counts, countsSize, contents, recordWords}
+use Rattle.replay.specs.Register.{kindsIn}
 use Rattle.replay.specs.Calls.{startRecord, startCode, startBytes}
-use Rattle.replay_start.specs.Startable.{Startable, contentsOf}
+use Rattle.replay_objects.specs.declared.layout.Layout.{Layout}
+use Rattle.replay_start.specs.Startable.{Startable, startLayout, contentsOf}
 use Rattle.replay.proofs.Accepted.{registered}
 use Rattle.replay.proofs.Keep.{sound-start}
 use Rattle.replay.proofs.Encode.{laid, bytes-encode, counts-size}
@@ -59,58 +61,62 @@ four-times l n h e = omega arith
 
 -- the state of a trail that is just started, by the table's and the register's bytes
 abbrev pub begun : List ℕ → List ℕ → State
-begun table objects = startState (netOf table) (wordsOf objects)
+begun table objects = startState (netOf table) (kindsIn (netOf table) objects)
 
 -- words that hold the net of a table that loads, and a register in whole rows that is not refused
-module _ (t table objects : List ℕ) (S : Startable t table objects) (ok : registerCode (netOf table) (wordsOf objects) ≡ 0) where
+module _ (t table objects : List ℕ) (S : Startable t table objects) (ok : registerCode (netOf table) (kindsIn (netOf table) objects) ≡ 0) where
   pub loaded : Loaded (netOf table)
   loaded = promise table (S .tabled .taken)
 
   pub sound : Sound (netOf table) (begun table objects)
-  sound = sound-start (netOf table) loaded (wordsOf objects) (registered (netOf table) (wordsOf objects) ok)
+  sound = sound-start (netOf table) loaded (kindsIn (netOf table) objects) (registered (netOf table) (kindsIn (netOf table) objects) ok)
 
-  rows : 4 * length (wordsOf objects) ≡ length objects
-  rows = four-times (length objects) (length (wordsOf objects)) (S .whole) (length-words objects)
+  rows : 4 * length (kindsIn (netOf table) objects) ≡ length objects
+  rows = four-times (length objects) (length (kindsIn (netOf table) objects)) (S .whole) (length-words objects)
 
   pub table-few : length table ≤ maxTable
   table-few = table-size table (S .tabled .taken) .1
 
   pub objects-few : length objects ≤ 4096
-  objects-few = omega (arith, rows, registered (netOf table) (wordsOf objects) ok .few)
+  objects-few = omega (arith, rows, registered (netOf table) (kindsIn (netOf table) objects) ok .few)
 
-  pub kinds-known : All (λ (k : ℕ). k < netIn t .kinds) (wordsOf objects)
-  kinds-known = subst (λ (N : Net). All (λ (k : ℕ). k < N .kinds) (wordsOf objects)) (sym (S .tabled .net)) (registered (netOf table) (wordsOf objects) ok .kinds)
+  pub kinds-few : length (kindsIn (netOf table) objects) ≤ 1024
+  kinds-few = registered (netOf table) (kindsIn (netOf table) objects) ok .few
 
-  record-size-of : length (startRecord table (wordsOf objects)) ≡ 40 + length table + length objects + length objects + 4 * countsSize (netOf table) + 4 * (netOf table .places * netOf table .places)
+  pub kinds-known : All (λ (k : ℕ). k < netIn t .kinds) (kindsIn (netOf table) objects)
+  kinds-known = subst (λ (N : Net). All (λ (k : ℕ). k < N .kinds) (kindsIn (netOf table) objects)) (sym (S .tabled .net)) (registered (netOf table) (kindsIn (netOf table) objects) ok .kinds)
+
+  record-size-of : length (startRecord table (kindsIn (netOf table) objects)) ≡ 40 + length table + length objects + length objects + 4 * countsSize (netOf table) + 4 * (netOf table .places * netOf table .places)
   unfolding startRecord
   record-size-of = omega (
     arith,
     laid (netOf table) loaded table (begun table objects) sound table-few .size,
     rows,
-    length-map (wordsOf objects) (netOf table .source),
+    length-map (kindsIn (netOf table) objects) (netOf table .source),
     counts-size (netOf table) (begun table objects) sound,
     length-replicate {A = ℕ} (netOf table .places * netOf table .places) 0,
   )
 
   -- how many bytes the record takes
-  pub record-size : length (startRecord table (wordsOf objects)) ≡ 40 + length table + length objects + length objects + 4 * countsSize (netIn t) + 4 * (netIn t .places * netIn t .places)
+  pub record-size : length (startRecord table (kindsIn (netOf table) objects)) ≡ 40 + length table + length objects + length objects + 4 * countsSize (netIn t) + 4 * (netIn t .places * netIn t .places)
   record-size = record-size-of ∙ ap (λ (N : Net). 40 + length table + length objects + length objects + 4 * countsSize N + 4 * (N .places * N .places)) (sym (S .tabled .net))
 
   -- and how many numbers
-  pub words-size : (out : List ℕ) → length out ≡ length (startRecord table (wordsOf objects))
-      → length (wordsOf out) ≡ 10 + length table / 4 + length objects / 4 + length objects / 4 + countsSize (netIn t) + netIn t .places * netIn t .places
-  words-size out e = let h : length table % 4 ≡ 0 = table-size table (S .tabled .taken) .2 in let g = S .whole in omega (arith, length-words out, record-size)
+  pub words-size : (out : List ℕ) → length out ≡ length (startRecord table (kindsIn (netOf table) objects))
+      → length (wordsOf out) ≡ 10 + length table / 4 + length (kindsIn (netOf table) objects) + length (kindsIn (netOf table) objects) + countsSize (netIn t) + netIn t .places * netIn t .places
+  words-size out e = let h : length table % 4 ≡ 0 = table-size table (S .tabled .taken) .2 in omega (arith, length-words out, record-size, rows)
 
   -- the numbers that starting stores, as one list
   module _ (w : List ℕ) (c p : ℕ) (cs : c ≡ 4 * countsSize (netIn t)) (ps : p ≡ 4 * (netIn t .places * netIn t .places))
-      (size : length w ≡ 10 + length table / 4 + length objects / 4 + length objects / 4 + countsSize (netIn t) + netIn t .places * netIn t .places) where
+      (size : length w ≡ 10 + length table / 4 + length (kindsIn (netOf table) objects) + length (kindsIn (netOf table) objects) + countsSize (netIn t) + netIn t .places * netIn t .places)
+      (l : Layout) (e : l ≡ startLayout (netIn t) (length table / 4) (length (kindsIn (netOf table) objects))) where
     heads : contentsOf (length table) (length objects) c p ≡ contents table (begun table objects)
     heads = cc (
       rows,
       cs ∙ ap (λ (N : Net). 4 * countsSize N) (S .tabled .net),
       ps ∙ ap (λ (N : Net). 4 * (N .places * N .places)) (S .tabled .net),
       counts-size (netOf table) (begun table objects) sound,
-      length-map (wordsOf objects) (netOf table .source),
+      length-map (kindsIn (netOf table) objects) (netOf table .source),
       length-replicate {A = ℕ} (netOf table .places * netOf table .places) 0,
     )
 
@@ -118,18 +124,19 @@ module _ (t table objects : List ℕ) (S : Startable t table objects) (ok : regi
     tails = sym (rest-zeros (netOf table .acts) (netOf table .places * netOf table .places) (c / 4 + p / 4)
         (omega (arith, cs ∙ ap (λ (N : Net). 4 * countsSize N) (S .tabled .net), ps ∙ ap (λ (N : Net). 4 * (N .places * N .places)) (S .tabled .net))))
 
-    pub stored : sets (sets (sets (sets (sets w 0 (contentsOf (length table) (length objects) c p)) 10 (wordsOf table)) (10 + length table / 4) (wordsOf objects)) (10 + length table / 4 + length objects / 4) (map (netIn t .source) (wordsOf objects)))
-        (10 + length table / 4 + length objects / 4 + length objects / 4) (replicate (c / 4 + p / 4) 0) ≡ recordWords table (begun table objects)
+    pub stored : sets (sets (sets (sets (sets w 0 (contentsOf (length table) (length objects) c p)) 10 (wordsOf table)) (l .register) (kindsIn (netOf table) objects)) (l .positions) (map (netIn t .source) (kindsIn (netOf table) objects)))
+        (l .counts) (replicate (c / 4 + p / 4) 0) ≡ recordWords table (begun table objects)
     stored =
-        five w (contentsOf (length table) (length objects) c p) (wordsOf table) (wordsOf objects) (map (netIn t .source) (wordsOf objects)) (replicate (c / 4 + p / 4) 0)
-        10 (10 + length table / 4) (10 + length table / 4 + length objects / 4) (10 + length table / 4 + length objects / 4 + length objects / 4)
-        refl (omega (arith, length-words table)) (omega (arith, length-words objects)) (omega (arith, length-words objects, length-map (wordsOf objects) (netIn t .source)))
-        (omega (arith, length-replicate {A = ℕ} (c / 4 + p / 4) 0))
-        ∙ cc (heads, tails, ap (λ (N : Net). map (N .source) (wordsOf objects)) (S .tabled .net))
+        let r = ap (λ (l : Layout). l .register) e in let q = ap (λ (l : Layout). l .positions) e in let n = ap (λ (l : Layout). l .counts) e in
+        five w (contentsOf (length table) (length objects) c p) (wordsOf table) (kindsIn (netOf table) objects) (map (netIn t .source) (kindsIn (netOf table) objects)) (replicate (c / 4 + p / 4) 0)
+        10 (l .register) (l .positions) (l .counts)
+        refl (omega (arith, r, length-words table)) (omega (arith, r, q)) (omega (arith, q, n, length-map (kindsIn (netOf table) objects) (netIn t .source)))
+        (omega (arith, n, length-replicate {A = ℕ} (c / 4 + p / 4) 0))
+        ∙ cc (heads, tails, ap (λ (N : Net). map (N .source) (kindsIn (netOf table) objects)) (S .tabled .net))
 
   -- bytes that hold them are the record
-  pub record-is : (out : List ℕ) → length out ≡ length (startRecord table (wordsOf objects)) → ((i : ℕ) → getD table i 0 < 256) → ((i : ℕ) → getD out i 0 < 256)
-      → wordsOf out ≡ recordWords table (begun table objects) → out ≡ startRecord table (wordsOf objects)
+  pub record-is : (out : List ℕ) → length out ≡ length (startRecord table (kindsIn (netOf table) objects)) → ((i : ℕ) → getD table i 0 < 256) → ((i : ℕ) → getD out i 0 < 256)
+      → wordsOf out ≡ recordWords table (begun table objects) → out ≡ startRecord table (kindsIn (netOf table) objects)
   unfolding startRecord
   record-is out size small bytes words =
       let h : length table % 4 ≡ 0 = table-size table (S .tabled .taken) .2 in
@@ -141,26 +148,26 @@ module _ (t table objects : List ℕ) (S : Startable t table objects) (ok : regi
 -- the answers, by the tests passed on the way
 module _ (table objects lent : List ℕ) where
   abbrev pub Answers : ℕ → List ℕ → Type 0
-  Answers n after = (n ≡ startCode table (wordsOf objects) (length lent)) × (after ≡ startBytes table (wordsOf objects) lent)
+  Answers n after = (n ≡ startCode table (kindsIn (netOf table) objects) (length lent)) × (after ≡ startBytes table (kindsIn (netOf table) objects) lent)
 
-  refused : (n : ℕ) → 0 < n → n ≡ startCode table (wordsOf objects) (length lent) → Answers n lent
+  refused : (n : ℕ) → 0 < n → n ≡ startCode table (kindsIn (netOf table) objects) (length lent) → Answers n lent
   unfolding startBytes
-  refused n h e = (e, rw (ne-eqb (startCode table (wordsOf objects) (length lent)) 0 (λ z. omega (arith, e))))
+  refused n h e = (e, rw (ne-eqb (startCode table (kindsIn (netOf table) objects) (length lent)) 0 (λ z. omega (arith, e))))
 
-  pub register-refused : (n : ℕ) → 0 < n → n ≡ registerCode (netOf table) (wordsOf objects) → Answers n lent
+  pub register-refused : (n : ℕ) → 0 < n → n ≡ registerCode (netOf table) (kindsIn (netOf table) objects) → Answers n lent
   unfolding startCode
-  register-refused n h e = refused n h (e ∙ sym (first-stays (registerTests (netOf table) (wordsOf objects)) ((ltb (length lent) (length (startRecord table (wordsOf objects))), 61) ∷ []) (λ z. omega (arith, e ∙ z))))
+  register-refused n h e = refused n h (e ∙ sym (first-stays (registerTests (netOf table) (kindsIn (netOf table) objects)) ((ltb (length lent) (length (startRecord table (kindsIn (netOf table) objects))), 61) ∷ []) (λ z. omega (arith, e ∙ z))))
 
-  module _ (ok : registerCode (netOf table) (wordsOf objects) ≡ 0) where
-    last-test : startCode table (wordsOf objects) (length lent) ≡ pick (ltb (length lent) (length (startRecord table (wordsOf objects)))) 61 0
+  module _ (ok : registerCode (netOf table) (kindsIn (netOf table) objects) ≡ 0) where
+    last-test : startCode table (kindsIn (netOf table) objects) (length lent) ≡ pick (ltb (length lent) (length (startRecord table (kindsIn (netOf table) objects)))) 61 0
     unfolding startCode
-    last-test = first-then (registerTests (netOf table) (wordsOf objects)) ((ltb (length lent) (length (startRecord table (wordsOf objects))), 61) ∷ []) ok (omega arith)
+    last-test = first-then (registerTests (netOf table) (kindsIn (netOf table) objects)) ((ltb (length lent) (length (startRecord table (kindsIn (netOf table) objects))), 61) ∷ []) ok (omega arith)
 
-    pub no-room : length lent < length (startRecord table (wordsOf objects)) → Answers 61 lent
-    no-room h = refused 61 (omega arith) (sym (last-test ∙ rw (lt-ltb (length lent) (length (startRecord table (wordsOf objects))) h)))
+    pub no-room : length lent < length (startRecord table (kindsIn (netOf table) objects)) → Answers 61 lent
+    no-room h = refused 61 (omega arith) (sym (last-test ∙ rw (lt-ltb (length lent) (length (startRecord table (kindsIn (netOf table) objects))) h)))
 
-    pub taken : length (startRecord table (wordsOf objects)) ≤ length lent → Answers 0 (over (startRecord table (wordsOf objects)) lent)
+    pub taken : length (startRecord table (kindsIn (netOf table) objects)) ≤ length lent → Answers 0 (over (startRecord table (kindsIn (netOf table) objects)) lent)
     unfolding startBytes
     taken h =
-        let e : startCode table (wordsOf objects) (length lent) ≡ 0 = last-test ∙ rw (le-ltb (length lent) (length (startRecord table (wordsOf objects))) h) in
-        (sym e, rw (eq-eqb (startCode table (wordsOf objects) (length lent)) 0 e))
+        let e : startCode table (kindsIn (netOf table) objects) (length lent) ≡ 0 = last-test ∙ rw (le-ltb (length lent) (length (startRecord table (kindsIn (netOf table) objects))) h) in
+        (sym e, rw (eq-eqb (startCode table (kindsIn (netOf table) objects) (length lent)) 0 e))

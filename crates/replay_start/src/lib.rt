@@ -2,6 +2,8 @@
 // Above `net_lookup` and `replay`, whose definitions its contracts cite. The program and the C calls start by it.
 
 use net::NetWords;
+use replay_objects::layout::Layout;
+use replay_objects::layout::put_place;
 use replay_objects::register::register_refusal;
 ghost use mathlib.Core.Path.{_≡_};
 ghost use mathlib.Core.List.{map};
@@ -16,7 +18,9 @@ ghost use Rattle.replay.specs.Plain.{registerCode};
 ghost use Rattle.replay.specs.Record.{countsSize};
 ghost use Rattle.replay.specs.Calls.{startRecord, startCode, startBytes};
 ghost use Rattle.replay_start.specs.StartAnswers.{startAnswerCode};
-ghost use Rattle.replay_start.specs.Startable.{Startable, contentsOf};
+ghost use Rattle.replay.specs.Register.{kindsIn};
+ghost use Rattle.replay_objects.specs.Offsets.{placeAt};
+ghost use Rattle.replay_start.specs.Startable.{Startable, startLayout, contentsOf};
 ghost use Rattle.net.specs.Limits.{maxTable};
 
 // The answer to starting. `startAnswerCode` gives document 01's number.
@@ -96,30 +100,30 @@ fn copy_words(s: &[u8], out: &mut [u8], base: usize)
     }
 }
 
-// The source of an object's kind, the register's number i, as number `at`.
-fn put_source(t: &NetWords, objects: &[u8], i: usize, out: &mut [u8], at: usize)
+// Object o's row of the positions: it stands on its kind's source.
+fn put_source(t: &NetWords, objects: &[u8], out: &mut [u8], lay: Layout, o: usize)
     requires { ⌜ Held (now t) ⌝ }
-    requires { ⌜ All (λ (k : ℕ). k < netIn (now t) .kinds) (wordsOf (now objects)) ⌝ }
-    requires { ⌜ (i < length (wordsOf (now objects))) × (at < length (wordsOf (now out))) ⌝ }
-    ensures { λ _. ⌜ wordsOf (now (out .exit)) ≡ set (wordsOf (now (out .entry))) at (getD (map (netIn (now (t .entry)) .source) (wordsOf (now (objects .entry)))) i 0) ⌝ }
+    requires { ⌜ All (λ (k : ℕ). k < netIn (now t) .kinds) (kindsIn (netIn (now t)) (now objects)) ⌝ }
+    requires { ⌜ (o < length (kindsIn (netIn (now t)) (now objects))) × (placeAt lay o < length (wordsOf (now out))) ⌝ }
+    ensures { λ _. ⌜ wordsOf (now (out .exit)) ≡ set (wordsOf (now (out .entry))) (placeAt lay o) (getD (map (netIn (now (t .entry)) .source) (kindsIn (netIn (now (t .entry))) (now (objects .entry)))) o 0) ⌝ }
 {
-    let k = words::wide(words::get_word(objects, i));
+    let k = words::wide(replay_objects::register::kind(objects, t, o));
     let q = net_lookup::source(t, k);
-    words::put_word(out, at, q as u32);
+    put_place(out, lay, o, q as u32);
 }
 
 // The positions: each object stands on its kind's source.
-fn put_sources(t: &NetWords, objects: &[u8], out: &mut [u8], base: usize)
+fn put_sources(t: &NetWords, objects: &[u8], out: &mut [u8], lay: Layout)
     requires { ⌜ Held (now t) ⌝ }
-    requires { ⌜ All (λ (k : ℕ). k < netIn (now t) .kinds) (wordsOf (now objects)) ⌝ }
-    requires { ⌜ base + length (wordsOf (now objects)) ≤ length (wordsOf (now out)) ⌝ }
-    ensures { λ _. ⌜ wordsOf (now (out .exit)) ≡ sets (wordsOf (now (out .entry))) base (map (netIn (now (t .entry)) .source) (wordsOf (now (objects .entry)))) ⌝ }
+    requires { ⌜ All (λ (k : ℕ). k < netIn (now t) .kinds) (kindsIn (netIn (now t)) (now objects)) ⌝ }
+    requires { ⌜ placeAt lay (length (kindsIn (netIn (now t)) (now objects))) ≤ length (wordsOf (now out)) ⌝ }
+    ensures { λ _. ⌜ wordsOf (now (out .exit)) ≡ sets (wordsOf (now (out .entry))) (lay .positions) (map (netIn (now (t .entry)) .source) (kindsIn (netIn (now (t .entry))) (now (objects .entry)))) ⌝ }
 {
-    let n = objects.len() / 4;
-    let mut i = 0;
-    while i < n {
-        put_source(t, objects, i, out, base + i);
-        i += 1;
+    let n = replay_objects::register::objects(objects, t);
+    let mut o = 0;
+    while o < n {
+        put_source(t, objects, out, lay, o);
+        o += 1;
     }
 }
 
@@ -135,31 +139,50 @@ fn put_zeros(out: &mut [u8], base: usize, n: usize)
     }
 }
 
+// Where the bodies stand, by how many numbers the table has and how many objects there are.
+fn start_layout(t: &NetWords, table: usize, n: usize) -> Layout
+    requires { ⌜ Held (now t) ⌝ }
+    requires { ⌜ (table ≤ 1176) × (n ≤ 1024) ⌝ }
+    ensures { λ r. ⌜ r ≡ startLayout (netIn (now (t .entry))) table n ⌝ }
+{
+    let counts = 10 + table + n + n;
+    Layout {
+        register: 10 + table,
+        positions: 10 + table + n,
+        counts: counts,
+        pairs: counts + counts_bytes(t) / 4,
+        objects: n,
+        places: net_lookup::places(t),
+    }
+}
+
 // The record, into bytes that have just room for it.
 fn fill(t: &NetWords, table: &[u8], objects: &[u8], out: &mut [u8])
     requires { ⌜ Startable (now t) (now table) (now objects) ⌝ }
-    requires { ⌜ registerCode (netOf (now table)) (wordsOf (now objects)) ≡ 0 ⌝ }
-    requires { ⌜ length (now out) ≡ length (startRecord (now table) (wordsOf (now objects))) ⌝ }
-    ensures { λ _. ⌜ now (out .exit) ≡ startRecord (now (table .entry)) (wordsOf (now (objects .entry))) ⌝ }
+    requires { ⌜ registerCode (netOf (now table)) (kindsIn (netIn (now t)) (now objects)) ≡ 0 ⌝ }
+    requires { ⌜ length (now out) ≡ length (startRecord (now table) (kindsIn (netIn (now t)) (now objects))) ⌝ }
+    ensures { λ _. ⌜ now (out .exit) ≡ startRecord (now (table .entry)) (kindsIn (netIn (now (t .entry))) (now (objects .entry))) ⌝ }
 {
     let counts = counts_bytes(t);
     let pairs = pairs_bytes(t);
-    let register = 10 + table.len() / 4;
-    let positions = register + objects.len() / 4;
-    let rest = positions + objects.len() / 4;
+    let lay = start_layout(
+        t,
+        table.len() / 4,
+        replay_objects::register::objects(objects, t),
+    );
     put_contents(out, table.len(), objects.len(), counts, pairs);
     copy_words(table, out, 10);
-    copy_words(objects, out, register);
-    put_sources(t, objects, out, positions);
-    put_zeros(out, rest, counts / 4 + pairs / 4);
+    copy_words(objects, out, lay.register);
+    put_sources(t, objects, out, lay);
+    put_zeros(out, lay.counts, counts / 4 + pairs / 4);
 }
 
 // Starting with a register to which neither 11 nor 12 applies.
 fn write_start(t: &NetWords, table: &[u8], objects: &[u8], rec: &mut [u8]) -> StartAnswer
     requires { ⌜ Startable (now t) (now table) (now objects) ⌝ }
-    requires { ⌜ registerCode (netOf (now table)) (wordsOf (now objects)) ≡ 0 ⌝ }
-    ensures { λ r. ⌜ startAnswerCode r ≡ startCode (now (table .entry)) (wordsOf (now (objects .entry))) (length (now (rec .entry))) ⌝ }
-    ensures { λ _. ⌜ now (rec .exit) ≡ startBytes (now (table .entry)) (wordsOf (now (objects .entry))) (now (rec .entry)) ⌝ }
+    requires { ⌜ registerCode (netOf (now table)) (kindsIn (netIn (now t)) (now objects)) ≡ 0 ⌝ }
+    ensures { λ r. ⌜ startAnswerCode r ≡ startCode (now (table .entry)) (kindsIn (netIn (now (t .entry))) (now (objects .entry))) (length (now (rec .entry))) ⌝ }
+    ensures { λ _. ⌜ now (rec .exit) ≡ startBytes (now (table .entry)) (kindsIn (netIn (now (t .entry))) (now (objects .entry))) (now (rec .entry)) ⌝ }
 {
     let size = record_bytes(t, table.len(), objects.len());
     if rec.len() < size {
@@ -173,8 +196,8 @@ fn write_start(t: &NetWords, table: &[u8], objects: &[u8], rec: &mut [u8]) -> St
 // register, the kind of each object. Where it is refused no byte changes.
 pub fn start(t: &NetWords, table: &[u8], objects: &[u8], rec: &mut [u8]) -> StartAnswer
     requires { ⌜ Startable (now t) (now table) (now objects) ⌝ }
-    ensures { λ r. ⌜ startAnswerCode r ≡ startCode (now (table .entry)) (wordsOf (now (objects .entry))) (length (now (rec .entry))) ⌝ }
-    ensures { λ _. ⌜ now (rec .exit) ≡ startBytes (now (table .entry)) (wordsOf (now (objects .entry))) (now (rec .entry)) ⌝ }
+    ensures { λ r. ⌜ startAnswerCode r ≡ startCode (now (table .entry)) (kindsIn (netIn (now (t .entry))) (now (objects .entry))) (length (now (rec .entry))) ⌝ }
+    ensures { λ _. ⌜ now (rec .exit) ≡ startBytes (now (table .entry)) (kindsIn (netIn (now (t .entry))) (now (objects .entry))) (now (rec .entry)) ⌝ }
 {
     let code = register_refusal(objects, t);
     if code == 11 {

@@ -1,13 +1,8 @@
 -- What the events took, and what the close took. Assumes nothing.
-use mathlib.Core.Path.{ap, ap₂, sym, _∙_}
-use mathlib.Core.List.{List}
+use mathlib.Core.Path.{ap₂}
 use native.Mathlib.Omega.{arith}
 use Prim.Native.Nat.{ℕ, _+_, _*_}
 use native.Mathlib.Nat.{mul-le-mul}
-use Rattle.net.specs.Held.{netIn}
-use Rattle.replay.specs.State.{sunkOn}
-use Rattle.replay.specs.Calls.{stateAt}
-use Rattle.replay.proofs.Accepted.{closers-kinds}
 use borrow.Author.Needs.{needs}
 use Rattle.replay_counts.proofs.consumed.Statement.{statement}
 use Rattle.replay_counts.proofs.consumed.Tie as tie
@@ -28,7 +23,7 @@ add-result : tie.Need-add-result
 add-result c = omega (arith, mul-le-mul (c .before .closed .ensures .1) (c .sunk-on .ensures .1), c .before .before .taken-by-events .ensures .1)
 
 returns : tie.Need-returns
-returns c = ap₂ (λ (x y : ℕ). x + y) (c .before .before .taken-by-events .ensures .0) (ap₂ (λ (x y : ℕ). x * y) (c .before .closed .ensures .0) (c .sunk-on .ensures .0 ∙ ap (λ (ks : List ℕ). sunkOn (netIn (c .before .before .before .before .args .t .now)) ks (c .before .before .before .before .args .q)) (sym (closers-kinds (stateAt (c .before .before .before .before .args .rec .now) .kinds)))))
+returns c = ap₂ (λ (x y : ℕ). x + y) (c .before .before .taken-by-events .ensures .0) (ap₂ (λ (x y : ℕ). x * y) (c .before .closed .ensures .0) (c .sunk-on .ensures .0))
 
 pub consumed-spec : {M : Type 1} → statement M
 consumed-spec =

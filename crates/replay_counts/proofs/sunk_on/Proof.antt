@@ -1,6 +1,7 @@
 -- What is left of the sum after o objects. Assumes nothing.
 use Prim.Native.Nat.{ℕ, _+_, _-_, _≤_}
-use mathlib.Core.Path.{_≡_}
+use mathlib.Core.Path.{_≡_, ap, sym, _∙_}
+use mathlib.Core.List.{List}
 use native.Mathlib.Omega.{arith}
 use native.Mathlib.Nat.{zero-add}
 use lib.Dec.{eqb}
@@ -8,7 +9,9 @@ use lib.ListN.{length, drop}
 use Rattle.words.specs.Lists.{one, total}
 use Rattle.net.specs.Held.{netIn}
 use Rattle.net.proofs.Scan.{total-turn, total-end}
+use Rattle.replay.specs.State.{sunkOn}
 use Rattle.replay.specs.Calls.{stateAt}
+use Rattle.replay.proofs.Accepted.{closers-kinds}
 use borrow.Author.Needs.{needs}
 use Rattle.replay_counts.proofs.sunk_on.Statement.{statement}
 use Rattle.replay_counts.proofs.sunk_on.Tie as tie
@@ -54,7 +57,8 @@ returns : tie.Need-returns Inv-loop μ-loop
 returns c =
     let a = c .before .before .before .before .args in
     let l = c .before .loop in
-    (omega (arith, l .inv .4, total-end (λ (k : ℕ). one (eqb (a .q) (netIn (a .t .now) .sink k))) (stateAt (a .rec .now) .kinds) 0 (l .o) (omega (arith, l .inv .0, c .loop-test .left))), omega (arith, l .inv .1, l .inv .2, l .inv .3))
+    let e : l .sum ≡ sunkOn (netIn (a .t .now)) (stateAt (a .rec .now) .kinds) (a .q) = omega (arith, l .inv .4, total-end (λ (k : ℕ). one (eqb (a .q) (netIn (a .t .now) .sink k))) (stateAt (a .rec .now) .kinds) 0 (l .o) (omega (arith, l .inv .0, c .loop-test .left))) in
+    (e ∙ ap (λ (ks : List ℕ). sunkOn (netIn (a .t .now)) ks (a .q)) (sym (closers-kinds (stateAt (a .rec .now) .kinds))), omega (arith, l .inv .1, l .inv .2, l .inv .3))
 
 pub sunk-on-spec : {M : Type 1} → statement M
 sunk-on-spec =

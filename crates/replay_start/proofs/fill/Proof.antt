@@ -1,11 +1,31 @@
 -- The five bodies fill the bytes. Assumes nothing.
+use Prim.Native.Nat.{_+_, _/_}
+use mathlib.Core.Path.{_≡_, ap, _∙_}
 use native.Mathlib.Omega.{arith}
+use lib.ListN.{length}
 use Rattle.words.specs.Words.{wordsOf}
 use Rattle.words.proofs.Words.{length-words}
-use Rattle.replay_start.proofs.StartLaws.{table-few, objects-few, kinds-known, words-size, stored, record-is}
+use Rattle.net.specs.Held.{netIn}
+use Rattle.replay.specs.Register.{kindsIn}
+use Rattle.replay_objects.specs.declared.layout.Layout.{Layout}
+use Rattle.replay_start.specs.Startable.{startLayout}
+use Rattle.replay_start.proofs.StartLaws.{table-few, objects-few, kinds-few, kinds-known, words-size, stored, record-is}
 use borrow.Author.Needs.{needs}
 use Rattle.replay_start.proofs.fill.Statement.{statement}
 use Rattle.replay_start.proofs.fill.Tie as tie
+
+-- where the bodies stand
+laid : (c : tie.After-start-layout) → let a = c .before .before .before .before .before .before .before .args in c .start-layout .result ≡ startLayout (netIn (a .t .now)) (length (a .table .now) / 4) (length (kindsIn (netIn (a .t .now)) (a .objects .now)))
+laid c = let a = c .before .before .before .before .before .before .before .args in c .start-layout .ensures ∙ ap (startLayout (netIn (a .t .now)) (length (a .table .now) / 4)) (c .before .objects .ensures)
+
+register-at : (c : tie.After-start-layout) → c .start-layout .result .register ≡ 10 + length (c .before .before .before .before .before .before .before .args .table .now) / 4
+register-at c = ap (λ (l : Layout). l .register) (laid c)
+
+counts-at : (c : tie.After-start-layout) → let a = c .before .before .before .before .before .before .before .args in c .start-layout .result .counts ≡ c .start-layout .result .positions + length (kindsIn (netIn (a .t .now)) (a .objects .now))
+counts-at c = omega (arith, ap (λ (l : Layout). l .counts) (laid c), ap (λ (l : Layout). l .positions) (laid c))
+
+positions-at : (c : tie.After-start-layout) → let a = c .before .before .before .before .before .before .before .args in c .start-layout .result .positions ≡ 10 + length (a .table .now) / 4 + length (kindsIn (netIn (a .t .now)) (a .objects .now))
+positions-at c = ap (λ (l : Layout). l .positions) (laid c)
 
 counts-bytes-requires : tie.Need-counts-bytes-requires
 counts-bytes-requires c κs = search needs
@@ -13,61 +33,47 @@ counts-bytes-requires c κs = search needs
 pairs-bytes-requires : tie.Need-pairs-bytes-requires
 pairs-bytes-requires c κs = search needs
 
-add-register : tie.Need-add-register
-add-register c = search needs
+objects-requires : tie.Need-objects-requires
+objects-requires c κs = search needs
 
-add-positions : tie.Need-add-positions
-add-positions c = search needs
-
-add-rest : tie.Need-add-rest
-add-rest c = search needs
+start-layout-requires : tie.Need-start-layout-requires
+start-layout-requires c κs = let s = c .before .before .before .before .before .before in (s .pre .0 .tabled .held, omega (arith, table-few _ _ _ (s .pre .0) (s .pre .1 .0), kinds-few _ _ _ (s .pre .0) (s .pre .1 .0), c .objects .ensures))
 
 put-contents-requires : tie.Need-put-contents-requires
-put-contents-requires c κs =
-    let a = c .before .before .before .before .before .before .args in
-    let p = c .before .before .before .before .before .before .pre in
-    omega (arith, words-size (a .t .now) (a .table .now) (a .objects .now) (p .0) (p .1 .0) (a .out .now) (p .1 .1), table-few (a .t .now) (a .table .now) (a .objects .now) (p .0) (p .1 .0), objects-few (a .t .now) (a .table .now) (a .objects .now) (p .0) (p .1 .0), c .before .before .counts-bytes .ensures .1, c .before .pairs-bytes .ensures .1)
+put-contents-requires c κs = let s = c .before .before .before .before .before .before .before .before in
+    omega (arith, words-size _ _ _ (s .pre .0) (s .pre .1 .0) (s .args .out .now) (s .pre .1 .1), table-few _ _ _ (s .pre .0) (s .pre .1 .0), objects-few _ _ _ (s .pre .0) (s .pre .1 .0), c .before .before .before .before .counts-bytes .ensures .1, c .before .before .before .pairs-bytes .ensures .1)
 
 copy-words-requires : tie.Need-copy-words-requires
-copy-words-requires c κs =
-    let a = c .before .before .before .before .before .before .before .before .before .before .args in
-    let p = c .before .before .before .before .before .before .before .before .before .before .pre in
-    omega (arith, words-size (a .t .now) (a .table .now) (a .objects .now) (p .0) (p .1 .0) (c .before .before .before .put-contents .last .0) (omega (arith, c .before .before .before .put-contents .kept .0, p .1 .1)), length-words (a .table .now))
+copy-words-requires c κs = let s = c .before .before .before .before .before .before .before .before .before .before .before .before in
+    omega (arith, words-size _ _ _ (s .pre .0) (s .pre .1 .0) (c .before .before .before .put-contents .last .0) (omega (arith, c .before .before .before .put-contents .kept .0, s .pre .1 .1)), length-words (s .args .table .now))
 
 copy-words-requires-2 : tie.Need-copy-words-requires-2
-copy-words-requires-2 c κs =
-    let a = c .before .before .before .before .before .before .before .before .before .before .before .before .before .before .args in
-    let p = c .before .before .before .before .before .before .before .before .before .before .before .before .before .before .pre in
-    omega (arith, words-size (a .t .now) (a .table .now) (a .objects .now) (p .0) (p .1 .0) (c .before .before .before .copy-words .last .1 .0) (omega (arith, c .before .before .before .copy-words .kept, c .before .before .before .before .before .before .before .put-contents .kept .0, p .1 .1)), length-words (a .objects .now))
+copy-words-requires-2 c κs = let s = c .before .before .before .before .before .before .before .before .before .before .before .before .before .before .before .before in
+    omega (arith, words-size _ _ _ (s .pre .0) (s .pre .1 .0) (c .before .before .before .copy-words .last .1 .0) (omega (arith, c .before .before .before .before .before .before .before .put-contents .kept .0, c .before .before .before .copy-words .kept, s .pre .1 .1)), register-at (c .before .before .before .before .before .before .before .before .before))
 
 put-sources-requires : tie.Need-put-sources-requires
-put-sources-requires c κs =
-    let a = c .before .before .before .before .before .before .before .before .before .before .before .before .before .before .before .before .before .before .args in
-    let p = c .before .before .before .before .before .before .before .before .before .before .before .before .before .before .before .before .before .before .pre in
-    (p .0 .tabled .held, (kinds-known (a .t .now) (a .table .now) (a .objects .now) (p .0) (p .1 .0), omega (arith, words-size (a .t .now) (a .table .now) (a .objects .now) (p .0) (p .1 .0) (c .before .before .before .copy-words2 .last .1 .0) (omega (arith, c .before .before .before .copy-words2 .kept, c .before .before .before .before .before .before .before .copy-words .kept, c .before .before .before .before .before .before .before .before .before .before .before .put-contents .kept .0, p .1 .1)), length-words (a .objects .now))))
+put-sources-requires c κs = let s = c .before .before .before .before .before .before .before .before .before .before .before .before .before .before .before .before .before .before .before .before in
+    (s .pre .0 .tabled .held, (kinds-known _ _ _ (s .pre .0) (s .pre .1 .0), omega (arith, words-size _ _ _ (s .pre .0) (s .pre .1 .0) (c .before .before .before .copy-words2 .last .1 .0) (omega (arith, c .before .before .before .before .before .before .before .before .before .before .before .put-contents .kept .0, c .before .before .before .before .before .before .before .copy-words .kept, c .before .before .before .copy-words2 .kept, s .pre .1 .1)), positions-at (c .before .before .before .before .before .before .before .before .before .before .before .before .before))))
 
 add-put-zeros : tie.Need-add-put-zeros
 add-put-zeros c = search needs
 
 put-zeros-requires : tie.Need-put-zeros-requires
-put-zeros-requires c κs =
-    let a = c .before .before .before .before .before .before .before .before .before .before .before .before .before .before .before .before .before .before .before .before .before .before .args in
-    let p = c .before .before .before .before .before .before .before .before .before .before .before .before .before .before .before .before .before .before .before .before .before .before .pre in
-    omega (arith, words-size (a .t .now) (a .table .now) (a .objects .now) (p .0) (p .1 .0) (c .before .before .before .put-sources .last .1 .1 .0) (omega (arith, c .before .before .before .put-sources .kept, c .before .before .before .before .before .before .before .copy-words2 .kept, c .before .before .before .before .before .before .before .before .before .before .before .copy-words .kept, c .before .before .before .before .before .before .before .before .before .before .before .before .before .before .before .put-contents .kept .0, p .1 .1)), c .before .before .before .before .before .before .before .before .before .before .before .before .before .before .before .before .before .before .counts-bytes .ensures .0, c .before .before .before .before .before .before .before .before .before .before .before .before .before .before .before .before .before .pairs-bytes .ensures .0)
+put-zeros-requires c κs = let s = c .before .before .before .before .before .before .before .before .before .before .before .before .before .before .before .before .before .before .before .before .before .before .before .before in let k = c .before .before .before .before .before .before .before .before .before .before .before .before .before .before .before .before .before in
+    omega (arith, words-size _ _ _ (s .pre .0) (s .pre .1 .0) (c .before .before .before .put-sources .last .1 .1 .0) (omega (arith, c .before .before .before .before .before .before .before .before .before .before .before .before .before .before .before .put-contents .kept .0, c .before .before .before .before .before .before .before .before .before .before .before .copy-words .kept, c .before .before .before .before .before .before .before .copy-words2 .kept, c .before .before .before .put-sources .kept, s .pre .1 .1)), positions-at k, counts-at k, c .before .before .before .before .before .before .before .before .before .before .before .before .before .before .before .before .before .before .before .before .counts-bytes .ensures .0, c .before .before .before .before .before .before .before .before .before .before .before .before .before .before .before .before .before .before .before .pairs-bytes .ensures .0)
 
 same-length : tie.Need-same-length
 same-length c = search needs
 
 returns : tie.Need-returns
 returns c =
-    let a = c .before .before .before .before .before .before .before .before .before .before .before .before .before .before .before .before .before .before .before .before .before .before .before .before .before .args in
-    let p = c .before .before .before .before .before .before .before .before .before .before .before .before .before .before .before .before .before .before .before .before .before .before .before .before .before .pre in
-    record-is (a .t .now) (a .table .now) (a .objects .now) (p .0) (p .1 .0) (c .before .before .put-zeros .last .0)
-    (omega (arith, c .before .before .put-zeros .kept .0, c .before .before .before .before .before .before .put-sources .kept, c .before .before .before .before .before .before .before .before .before .before .copy-words2 .kept, c .before .before .before .before .before .before .before .before .before .before .before .before .before .before .copy-words .kept, c .before .before .before .before .before .before .before .before .before .before .before .before .before .before .before .before .before .before .put-contents .kept .0, p .1 .1))
-    (λ i. omega (arith, c .before .before .before .before .before .before .before .before .before .before .before .before .before .before .before .before .before .before .before .before .before .before .before .before .shared-slice-known .given i))
+    let s = c .before .before .before .before .before .before .before .before .before .before .before .before .before .before .before .before .before .before .before .before .before .before .before .before .before .before .before in let n = c .before .before .before .before .before .before .before .before .before .before .before .before .before .before .before .before .before .before .before .before .before .before .before .counts-bytes in let q = c .before .before .before .before .before .before .before .before .before .before .before .before .before .before .before .before .before .before .before .before .before .before .pairs-bytes in
+    record-is _ _ _ (s .pre .0) (s .pre .1 .0) (c .before .before .put-zeros .last .0)
+    (omega (arith, c .before .before .before .before .before .before .before .before .before .before .before .before .before .before .before .before .before .before .put-contents .kept .0, c .before .before .before .before .before .before .before .before .before .before .before .before .before .before .copy-words .kept, c .before .before .before .before .before .before .before .before .before .before .copy-words2 .kept, c .before .before .before .before .before .before .put-sources .kept, c .before .before .put-zeros .kept .0, s .pre .1 .1))
+    (λ i. omega (arith, c .before .before .before .before .before .before .before .before .before .before .before .before .before .before .before .before .before .before .before .before .before .before .before .before .before .before .shared-slice-known .given i))
     (λ i. omega (arith, c .slice-known6 .given i))
     (rw (c .before .before .put-zeros .ensures, c .before .before .before .before .before .before .put-sources .ensures, c .before .before .before .before .before .before .before .before .before .before .copy-words2 .ensures, c .before .before .before .before .before .before .before .before .before .before .before .before .before .before .copy-words .ensures, c .before .before .before .before .before .before .before .before .before .before .before .before .before .before .before .before .before .before .put-contents .ensures)
-    (stored (a .t .now) (a .table .now) (a .objects .now) (p .0) (p .1 .0) (wordsOf (a .out .now)) (c .before .before .before .before .before .before .before .before .before .before .before .before .before .before .before .before .before .before .before .before .before .counts-bytes .result) (c .before .before .before .before .before .before .before .before .before .before .before .before .before .before .before .before .before .before .before .before .pairs-bytes .result) (c .before .before .before .before .before .before .before .before .before .before .before .before .before .before .before .before .before .before .before .before .before .counts-bytes .ensures .0) (c .before .before .before .before .before .before .before .before .before .before .before .before .before .before .before .before .before .before .before .before .pairs-bytes .ensures .0) (words-size (a .t .now) (a .table .now) (a .objects .now) (p .0) (p .1 .0) (a .out .now) (p .1 .1))))
+    (stored _ _ _ (s .pre .0) (s .pre .1 .0) (wordsOf (s .args .out .now)) (n .result) (q .result) (n .ensures .0) (q .ensures .0) (words-size _ _ _ (s .pre .0) (s .pre .1 .0) (s .args .out .now) (s .pre .1 .1)) (c .before .before .before .before .before .before .before .before .before .before .before .before .before .before .before .before .before .before .before .before .start-layout .result) (laid (c .before .before .before .before .before .before .before .before .before .before .before .before .before .before .before .before .before .before .before .before))))
 
 pub fill-spec : {M : Type 1} → statement M
 fill-spec =
@@ -75,9 +81,8 @@ fill-spec =
     (tie.spec
     counts-bytes-requires
     pairs-bytes-requires
-    add-register
-    add-positions
-    add-rest
+    objects-requires
+    start-layout-requires
     put-contents-requires
     copy-words-requires
     copy-words-requires-2

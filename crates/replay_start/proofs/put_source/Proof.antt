@@ -6,13 +6,15 @@ use native.Mathlib.Omega.{arith}
 use Rattle.words.specs.Words.{wordsOf}
 use Rattle.words.proofs.Lists.{All-at, map-at}
 use Rattle.net.specs.Held.{netIn}
+use Rattle.replay.specs.Register.{kindsIn}
+use Rattle.replay_objects.specs.Offsets.{placeAt}
 use Rattle.net.proofs.HeldLaws.{held-loaded}
 use borrow.Author.Needs.{needs}
 use Rattle.replay_start.proofs.put_source.Statement.{statement}
 use Rattle.replay_start.proofs.put_source.Tie as tie
 
-get-word-requires : tie.Need-get-word-requires
-get-word-requires c κs = search needs
+kind-requires : tie.Need-kind-requires
+kind-requires c κs = search needs
 
 wide-requires : tie.Need-wide-requires
 wide-requires c κs = search needs
@@ -21,18 +23,18 @@ source-requires : tie.Need-source-requires
 source-requires c κs =
     let s = c .before .before .before .before .pre in
     let a = c .before .before .before .before .args in
-    (s .0, rw (c .wide .ensures, c .before .get-word .ensures) (All-at (λ (k : ℕ). k < netIn (a .t .now) .kinds) 0 (wordsOf (a .objects .now)) (s .1 .0) (a .i) (s .1 .1 .0)))
+    (s .0, rw (c .wide .ensures, c .before .kind .ensures) (All-at (λ (k : ℕ). k < netIn (a .t .now) .kinds) 0 (kindsIn (netIn (a .t .now)) (a .objects .now)) (s .1 .0) (a .o) (s .1 .1 .0)))
 
-cast-put-word : tie.Need-cast-put-word
-cast-put-word c =
+cast-put-place : tie.Need-cast-put-place
+cast-put-place c =
     let s = c .before .before .before .before .before .before .pre in
     let a = c .before .before .before .before .before .before .args in
-    let k : c .before .before .wide .result < netIn (a .t .now) .kinds = rw (c .before .before .wide .ensures, c .before .before .before .get-word .ensures) (All-at (λ (k : ℕ). k < netIn (a .t .now) .kinds) 0 (wordsOf (a .objects .now)) (s .1 .0) (a .i) (s .1 .1 .0)) in
+    let k : c .before .before .wide .result < netIn (a .t .now) .kinds = rw (c .before .before .wide .ensures, c .before .before .before .kind .ensures) (All-at (λ (k : ℕ). k < netIn (a .t .now) .kinds) 0 (kindsIn (netIn (a .t .now)) (a .objects .now)) (s .1 .0) (a .o) (s .1 .1 .0)) in
     let L = held-loaded (a .t .now) (s .0) in
     omega (arith, c .before .source .ensures, L .source-in (c .before .before .wide .result) k, L .places-le)
 
-put-word-requires : tie.Need-put-word-requires
-put-word-requires c κs = search needs
+put-place-requires : tie.Need-put-place-requires
+put-place-requires c κs = search needs
 
 same-length : tie.Need-same-length
 same-length c = search needs
@@ -41,19 +43,19 @@ returns : tie.Need-returns
 returns c =
     let s = c .before .before .before .before .before .before .before .before .before .pre in
     let a = c .before .before .before .before .before .before .before .before .before .args in
-    c .before .before .put-word .ensures .words
-    ∙ ap (λ (q : ℕ). set (wordsOf (a .out .now)) (a .at) q)
-    (c .before .before .before .before .source .ensures ∙ ap (netIn (a .t .now) .source) (c .before .before .before .before .before .wide .ensures ∙ c .before .before .before .before .before .before .get-word .ensures)
-    ∙ sym (map-at (netIn (a .t .now) .source) 0 0 (wordsOf (a .objects .now)) (a .i) (s .1 .1 .0)))
+    c .before .before .put-place .ensures .words
+    ∙ ap (λ (q : ℕ). set (wordsOf (a .out .now)) (placeAt (a .lay) (a .o)) q)
+    (c .before .before .before .before .source .ensures ∙ ap (netIn (a .t .now) .source) (c .before .before .before .before .before .wide .ensures ∙ c .before .before .before .before .before .before .kind .ensures)
+    ∙ sym (map-at (netIn (a .t .now) .source) 0 0 (kindsIn (netIn (a .t .now)) (a .objects .now)) (a .o) (s .1 .1 .0)))
 
 pub put-source-spec : {M : Type 1} → statement M
 put-source-spec =
     tie.close
     (tie.spec
-    get-word-requires
+    kind-requires
     wide-requires
     source-requires
-    cast-put-word
-    put-word-requires
+    cast-put-place
+    put-place-requires
     same-length
     returns)

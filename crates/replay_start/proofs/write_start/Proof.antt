@@ -3,7 +3,8 @@ use mathlib.Core.Path.{_≡_, sym, _∙_}
 use native.Mathlib.Omega.{arith}
 use lib.ListN.{length}
 use lib.Seq.{length-take-le}
-use Rattle.words.specs.Words.{wordsOf}
+use Rattle.net.specs.Held.{netIn}
+use Rattle.replay.specs.Register.{kindsIn}
 use Rattle.replay.specs.Calls.{startRecord}
 use Rattle.replay_start.proofs.StartLaws.{table-few, objects-few, record-size, no-room, taken}
 use borrow.Author.Needs.{needs}
@@ -41,7 +42,7 @@ returns-2 : tie.Need-returns-2
 returns-2 c =
     let a = c .before .before .before .before .before .before .before .before .before .args in
     let p = c .before .before .before .before .before .before .before .before .before .pre in
-    let s : c .before .before .before .before .before .record-bytes .result ≡ length (startRecord (a .table .now) (wordsOf (a .objects .now))) = omega (arith, c .before .before .before .before .before .record-bytes .ensures, record-size (a .t .now) (a .table .now) (a .objects .now) (p .0) (p .1)) in
+    let s : c .before .before .before .before .before .record-bytes .result ≡ length (startRecord (a .table .now) (kindsIn (netIn (a .t .now)) (a .objects .now))) = omega (arith, c .before .before .before .before .before .record-bytes .ensures, record-size (a .t .now) (a .table .now) (a .objects .now) (p .0) (p .1)) in
     let r = taken (a .table .now) (a .objects .now) (a .rec .now) (p .1) (omega (arith, s, c .before .before .before .before .if1 .left)) in
     (r .0, rw (c .before .before .fill .ensures, s) (r .1))
 
