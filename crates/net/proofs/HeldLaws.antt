@@ -9,13 +9,13 @@ use lib.Seq.{sets}
 use Rattle.words.specs.Lists.{pick, All, pairUp, parts, twice}
 use Rattle.words.specs.Words.{bodyOf}
 use Rattle.words.proofs.Lists.{All-of, All-to, is-eq}
+use Rattle.words.proofs.Parts.{sum, length-parts, part-length}
+use Rattle.words.proofs.Sets.{sets-all}
 use Rattle.net.specs.Net.{Net, Arc, Loaded, GoodArc, takes, inputOf, outputOf, kindsOf}
 use Rattle.net.specs.Table.{netOf, loadCode}
 use Rattle.net.specs.Held.{countsIn, arcsIn, netIn, pack, indexRows, bodyWords, loadedWords, Held, Tabled, Sized}
 use Rattle.net.proofs.Views.{counts-length, count-at}
-use Rattle.net.proofs.Parts.{sum, length-parts, part-length}
 use Rattle.net.proofs.Promise.{passed, taken-shape, promise}
-use Rattle.net.proofs.Sets.{sets-all}
 use Rattle.net.proofs.IndexLaws.{rows-at, arc-has}
 use Rattle.net.proofs.BodyWords.{FitFront, FitArcs, Holds, body-words, no-words, indexed, counts-in, arcs-in, net-in, sized}
 use Rattle.net.proofs.Room.{fit-front, fit-arcs}

@@ -12,10 +12,10 @@ use Rattle.words.specs.Lists.{any, anyTo, either, All, twice, pairUp, parts}
 use Rattle.words.specs.Words.{bodyOf}
 use Rattle.words.proofs.Lists.{pos, is-eq, any-none, anyTo-none, All-at, All-to}
 use Rattle.words.proofs.Refusals.{None, none-apply, none-split}
+use Rattle.words.proofs.Parts.{sum, length-parts, part-length, All-parts, in-whole, in-part}
 use Rattle.net.specs.Net.{Net, Arc, Reaches, stay, along, GoodArc, Loaded, kindsOf}
 use Rattle.net.specs.Table.{netFrom, netOf, marked, badEnds, badCount, badArc, shapeTests, endTests, arcTests, loadTests, loadCode}
 use Rattle.net.proofs.Marks.{Walk, rest, on, marked-is}
-use Rattle.net.proofs.Parts.{sum, length-parts, part-length, All-parts, part-in, in-part}
 use Rattle.net.proofs.Bodies.{Shaped, shaped}
 use Rattle.net.specs.Limits.{maxTable}
 
@@ -70,7 +70,7 @@ module _ (ends places counts arcs : List ℕ) where
 
       back : (q : ℕ) → Reaches (netFrom ends places counts arcs) s q → Walk (pairUp arcs) s q
       back q stay = rest
-      back q (along a h x i r) = on x (part-in counts (pairUp arcs) a x i) (back (x .0) r)
+      back q (along a h x i r) = on x (in-whole counts (pairUp arcs) a x i) (back (x .0) r)
 
   module _ (e : None (endTests ends places counts arcs)) where
     counts-sum : sum counts ≡ length (pairUp arcs)

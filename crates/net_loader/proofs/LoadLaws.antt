@@ -12,15 +12,15 @@ use Rattle.words.specs.Refusals.{first}
 use Rattle.words.specs.Words.{word, bodyOf}
 use Rattle.words.proofs.Lists.{is-eq}
 use Rattle.words.proofs.Refusals.{None, none-apply, first-then, first-stays, first-le}
+use Rattle.words.proofs.Sets.{sets-all}
+use Rattle.words.proofs.Parts.{length-pairs}
 use Rattle.net.specs.Table.{badArc, shapeTests, endTests, arcTests, loadTests, loadCode}
 use Rattle.net.specs.Held.{endsIn, placesIn, countsIn, arcsIn, netIn, frontWords, bodyWords, indexRows, frontOver, loadedWords, afterLoad, Sized}
 use Rattle.net.specs.Ruled.{frontTests, Fronted, Ruled}
 use Rattle.net.proofs.Bodies.{Shaped, shaped}
 use Rattle.net.proofs.BodyWords.{FitFront, FitArcs, Front, Holds, front-words, with-arcs, ends-in, places-in, counts-in, arcs-in, sized}
 use Rattle.net.proofs.Room.{fit-front, fit-arcs}
-use Rattle.net.proofs.Sets.{sets-all}
 use Rattle.net.proofs.HeldLaws.{loaded-held, loaded-same, held-sized}
-use Rattle.net.proofs.Views.{length-pairs}
 use Rattle.net.specs.Limits.{netWords}
 
 -- words to which neither 3 to 6 nor 7 applies

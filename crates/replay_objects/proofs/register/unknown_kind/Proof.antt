@@ -10,7 +10,7 @@ use Rattle.words.specs.Lists.{any}
 use Rattle.words.specs.Words.{wordsOf}
 use Rattle.words.proofs.Words.{length-words}
 use Rattle.net.specs.Held.{netIn}
-use Rattle.net.proofs.Scan.{any-turn, any-found, any-end}
+use Rattle.words.proofs.Scan.{any-turn, any-found, any-end}
 use Rattle.replay_objects.proofs.register.unknown_kind.Statement.{statement}
 use Rattle.replay_objects.proofs.register.unknown_kind.Tie as tie
 
