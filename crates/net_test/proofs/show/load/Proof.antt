@@ -4,12 +4,12 @@ use mathlib.Core.Path.{_≡_, sym, ap, _∙_}
 use mathlib.Core.List.{List}
 use Rattle.net.specs.Answer.{loadAnswerCode}
 use Rattle.net.specs.Table.{loadCode}
-use Rattle.net.specs.Held.{loadedWords, afterLoad}
+use Rattle.net.specs.Held.{tableWords, afterLoad}
 use borrow.Author.Needs.{needs}
 use Rattle.net_test.proofs.show.load.Statement.{statement}
 use Rattle.net_test.proofs.show.load.Tie as tie
 
-loaded : (b w : List ℕ) → loadCode b ≡ 0 → afterLoad b w ≡ loadedWords b w
+loaded : (b w : List ℕ) → loadCode b ≡ 0 → afterLoad b w ≡ tableWords b
 unfolding afterLoad
 loaded b w e = rw e
 
@@ -31,7 +31,7 @@ put-net-requires c κs =
     let s = l .before .before .before .before .before .args .s .now in
     let w = l .before .before .fill .last .0 in
     let z : loadCode s ≡ 0 = sym (l .load .ensures .0) ∙ ap loadAnswerCode (c .before .enum-told .given .1) in
-    record { table = s; before = w; size = l .before .before .fill .ensures; taken = z; words = l .load .ensures .1 ∙ loaded s w z }
+    record { table = s; taken = z; words = l .load .ensures .1 ∙ loaded s w z }
 
 put-words-requires : tie.Need-put-words-requires
 put-words-requires c κs = search needs
