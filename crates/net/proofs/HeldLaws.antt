@@ -87,12 +87,15 @@ module _ (b : List ℕ) (taken : loadCode b ≡ 0) where
 -- the same, beside the words before
 module _ (b w : List ℕ) (size : length w ≡ netWords) (taken : loadCode b ≡ 0) where
   pub held-net : netIn (loadedWords b w) ≡ netOf b
+  unfolding loadedWords
   held-net = tabled b taken (tableWords b) refl .net
 
   pub loaded-held : Held (loadedWords b w)
+  unfolding loadedWords
   loaded-held = tabled b taken (tableWords b) refl .held
 
   pub loaded-tabled : (v : List ℕ) → v ≡ loadedWords b w → Tabled v b
+  unfolding loadedWords
   loaded-tabled v e = tabled b taken v e
 
 -- the same of any words that hold a loaded net

@@ -57,8 +57,8 @@ tableWords b =
     indexRows (λ (p : ℕ). getD (bodyOf b 1) p 0) 1172 (parts (bodyOf b 2) (pairUp (bodyOf b 3)))
     (bodyWords (bodyOf b 0) (bodyOf b 1) (bodyOf b 2) (bodyOf b 3))
 
--- the same, beside the words before
-abbrev pub loadedWords : List ℕ → List ℕ → List ℕ
+-- the same, beside the words before, which do not matter
+unfoldable pub loadedWords : List ℕ → List ℕ → List ℕ
 loadedWords b w = tableWords b
 
 -- the words w with the sizes and the first three bodies of the bytes b in front

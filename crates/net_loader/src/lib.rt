@@ -20,7 +20,7 @@ ghost use Prim.Native.Nat.{_≤_};
 ghost use lib.ListN.{length, replicate};
 ghost use Rattle.words.specs.Refusals.{first};
 ghost use Rattle.net.specs.Table.{shapeTests, loadCode};
-ghost use Rattle.net.specs.Held.{frontOver, tableWords, afterLoad};
+ghost use Rattle.net.specs.Held.{frontOver, tableWords, loadedWords, afterLoad};
 ghost use Rattle.net.specs.Answer.{loadAnswerCode};
 ghost use Rattle.net.specs.Limits.{netWords};
 
@@ -99,7 +99,7 @@ fn answer(n: u32) -> LoadAnswer
 // Loads a table file into words that are all zero. Where it is refused, nothing is said of them.
 pub fn load_fresh(s: &[u8], t: &mut NetWords) -> LoadAnswer
     requires { ⌜ now t ≡ replicate netWords 0 ⌝ }
-    ensures { λ r. ⌜ (loadAnswerCode r ≡ loadCode (now (s .entry))) × (loadCode (now (s .entry)) ≡ 0 → now (t .exit) ≡ tableWords (now (s .entry))) ⌝ }
+    ensures { λ r. ⌜ (loadAnswerCode r ≡ loadCode (now (s .entry))) × (loadCode (now (s .entry)) ≡ 0 → now (t .exit) ≡ loadedWords (now (s .entry)) (now (t .entry))) ⌝ }
 {
     let r = load_code(s, t);
     answer(r)
