@@ -13,7 +13,7 @@ use Rattle.words.specs.Words.{wordsOf}
 use Rattle.words.proofs.Lists.{anyTo-none, anyTo-false, is-eq, not-eqb, both-false, both-then}
 use Rattle.words.proofs.Sums.{sumTo-same}
 use Rattle.net.specs.Net.{Net}
-use Rattle.net.proofs.Scan.{either-one}
+use Rattle.words.proofs.Scan.{either-one}
 use Rattle.replay.specs.Plain.{closerKinds}
 use Rattle.replay.specs.Register.{kindsIn}
 use Rattle.replay.specs.State.{inputs, sunkOn, storedConsumed, odds}

@@ -10,7 +10,7 @@ use borrow.Author.Tests.{eq-eqb, ne-eqb, le-leb, lt-leb}
 use Rattle.words.specs.Lists.{pick, any, either, anyTo, both}
 use Rattle.words.proofs.Lists.{both-false}
 use Rattle.net.specs.Net.{Net, Loaded}
-use Rattle.net.proofs.Scan.{either-one}
+use Rattle.words.proofs.Scan.{either-one}
 use Rattle.replay.specs.Plain.{closers}
 use Rattle.replay.specs.State.{State}
 use Rattle.checkpoint.specs.Bodies.{hit}

@@ -13,8 +13,8 @@ use Rattle.words.specs.Words.{word, wordsOf, bodiesFrom, bodiesOf, endsAt, body
 use Rattle.words.proofs.Lists.{is-eq, clash}
 use Rattle.words.proofs.Words.{length-words}
 use Rattle.words.proofs.Refusals.{None}
+use Rattle.words.proofs.Parts.{length-pairs}
 use Rattle.net.specs.Table.{shapeTests}
-use Rattle.net.proofs.Views.{length-pairs}
 use Rattle.net.specs.Limits.{maxTable}
 
 pub record Shaped (b : List ℕ) : Type 0 where

@@ -7,10 +7,10 @@ use native.Mathlib.Omega.{arith}
 use lib.ListN.{length, getD, take, drop, replicate, length-replicate}
 use lib.Seq.{sets, length-sets}
 use Rattle.words.proofs.Lists.{zeros-at}
+use Rattle.words.proofs.Sets.{view-sets, view-same, word-same, word-apart}
 use Rattle.net.specs.Net.{Arc}
 use Rattle.net.specs.Table.{netFrom}
 use Rattle.net.specs.Held.{endsIn, placesIn, countsIn, arcsIn, netIn, indexRows, frontWords, bodyWords, Sized}
-use Rattle.net.proofs.Sets.{view-sets, view-same, word-same, word-apart}
 use Rattle.net.proofs.IndexLaws.{rows-length, rows-view, rows-before}
 use Rattle.net.specs.Limits.{netWords}
 

@@ -5,17 +5,15 @@ use mathlib.Core.Path.{_≡_, refl, ap, sym, subst, _∙_}
 use mathlib.Core.List.{List, []}
 use native.Mathlib.Omega.{arith}
 use lib.ListN.{length, getD}
-use lib.Seq.{sets}
 use Rattle.words.specs.Lists.{pick, All, pairUp, parts, twice}
 use Rattle.words.specs.Words.{bodyOf}
 use Rattle.words.proofs.Lists.{All-of, All-to, is-eq}
+use Rattle.words.proofs.Parts.{sum, length-parts, part-length}
 use Rattle.net.specs.Net.{Net, Arc, Loaded, GoodArc, takes, inputOf, outputOf, kindsOf}
 use Rattle.net.specs.Table.{netOf, loadCode}
-use Rattle.net.specs.Held.{countsIn, arcsIn, netIn, pack, indexRows, bodyWords, loadedWords, Held, Tabled, Sized}
+use Rattle.net.specs.Held.{countsIn, arcsIn, netIn, pack, bodyWords, tableWords, loadedWords, Held, Tabled, Sized}
 use Rattle.net.proofs.Views.{counts-length, count-at}
-use Rattle.net.proofs.Parts.{sum, length-parts, part-length}
 use Rattle.net.proofs.Promise.{passed, taken-shape, promise}
-use Rattle.net.proofs.Sets.{sets-all}
 use Rattle.net.proofs.IndexLaws.{rows-at, arc-has}
 use Rattle.net.proofs.BodyWords.{FitFront, FitArcs, Holds, body-words, no-words, indexed, counts-in, arcs-in, net-in, sized}
 use Rattle.net.proofs.Room.{fit-front, fit-arcs}
@@ -25,7 +23,7 @@ use Rattle.net.specs.Limits.{netWords}
 abbrev rowsOf : List ℕ → List (List Arc)
 rowsOf b = parts (bodyOf b 2) (pairUp (bodyOf b 3))
 
-module _ (b w : List ℕ) (size : length w ≡ netWords) (taken : loadCode b ≡ 0) where
+module _ (b : List ℕ) (taken : loadCode b ≡ 0) where
   all-arcs : sum (bodyOf b 2) ≡ length (pairUp (bodyOf b 3))
   all-arcs = is-eq _ _ (passed b taken .ends .1 .1 .1 .0)
 
@@ -35,41 +33,32 @@ module _ (b w : List ℕ) (size : length w ≡ netWords) (taken : loadCode b ≡
   arcs : FitArcs (bodyOf b 3)
   arcs = fit-arcs b (taken-shape b taken) (passed b taken .ends .1 .1 .0) all-arcs
 
-  whole : sets w 0 (bodyWords (bodyOf b 0) (bodyOf b 1) (bodyOf b 2) (bodyOf b 3)) ≡ bodyWords (bodyOf b 0) (bodyOf b 1) (bodyOf b 2) (bodyOf b 3)
-  whole =
-      sets-all w (bodyWords (bodyOf b 0) (bodyOf b 1) (bodyOf b 2) (bodyOf b 3))
-      (size ∙ sym (body-words (bodyOf b 0) (bodyOf b 1) (bodyOf b 2) (bodyOf b 3) front arcs .front .size))
-
-  holds : Holds (bodyOf b 0) (bodyOf b 1) (bodyOf b 2) (bodyOf b 3) (loadedWords b w)
-  unfolding loadedWords
+  holds : Holds (bodyOf b 0) (bodyOf b 1) (bodyOf b 2) (bodyOf b 3) (tableWords b)
+  unfolding tableWords
   holds =
-      rw whole (indexed (bodyOf b 0) (bodyOf b 1) (bodyOf b 2) (bodyOf b 3) front arcs (λ (p : ℕ). getD (bodyOf b 1) p 0) (rowsOf b) (bodyWords (bodyOf b 0) (bodyOf b 1) (bodyOf b 2) (bodyOf b 3))
-      (body-words (bodyOf b 0) (bodyOf b 1) (bodyOf b 2) (bodyOf b 3) front arcs))
+      indexed (bodyOf b 0) (bodyOf b 1) (bodyOf b 2) (bodyOf b 3) front arcs (λ (p : ℕ). getD (bodyOf b 1) p 0) (rowsOf b) (bodyWords (bodyOf b 0) (bodyOf b 1) (bodyOf b 2) (bodyOf b 3))
+      (body-words (bodyOf b 0) (bodyOf b 1) (bodyOf b 2) (bodyOf b 3) front arcs)
 
-  pub held-net : netIn (loadedWords b w) ≡ netOf b
+  -- what loading leaves holds the table's net
+  pub tabled : (v : List ℕ) → v ≡ tableWords b → Tabled v b
   unfolding netOf
-  held-net = net-in (bodyOf b 0) (bodyOf b 1) (bodyOf b 2) (bodyOf b 3) front arcs (loadedWords b w) holds
+  tabled v e =
+      rw e (record {
+        held = record { table = b; taken = taken; words = refl };
+        net = net-in (bodyOf b 0) (bodyOf b 1) (bodyOf b 2) (bodyOf b 3) front arcs (tableWords b) holds;
+        taken = taken;
+      })
 
-  pub loaded-held : Held (loadedWords b w)
-  loaded-held = record { table = b; before = w; size = size; taken = taken; words = refl }
+  loaded-sized : Sized (tableWords b)
+  loaded-sized = sized (bodyOf b 0) (bodyOf b 1) (bodyOf b 2) front (length (bodyOf b 3) / 2) (tableWords b) (holds .front)
 
-  loaded-is : loadedWords b w ≡ indexRows (λ (p : ℕ). getD (bodyOf b 1) p 0) 1172 (rowsOf b) (bodyWords (bodyOf b 0) (bodyOf b 1) (bodyOf b 2) (bodyOf b 3))
-  unfolding loadedWords
-  loaded-is = ap (indexRows (λ (p : ℕ). getD (bodyOf b 1) p 0) 1172 (rowsOf b)) whole
-
-  pub loaded-tabled : (v : List ℕ) → v ≡ loadedWords b w → Tabled v b
-  loaded-tabled v e = rw e (record { held = loaded-held; net = held-net; taken = taken })
-
-  loaded-sized : Sized (loadedWords b w)
-  loaded-sized = sized (bodyOf b 0) (bodyOf b 1) (bodyOf b 2) front (length (bodyOf b 3) / 2) (loadedWords b w) (holds .front)
-
-  loaded-arcs : (a : ℕ) → a < netIn (loadedWords b w) .acts → length (netIn (loadedWords b w) .arcs a) ≡ getD (loadedWords b w) (84 + a) 0
+  loaded-arcs : (a : ℕ) → a < netIn (tableWords b) .acts → length (netIn (tableWords b) .arcs a) ≡ getD (tableWords b) (84 + a) 0
   unfolding netIn
   loaded-arcs a h =
-      let c : countsIn (loadedWords b w) ≡ bodyOf b 2 = counts-in (bodyOf b 0) (bodyOf b 1) (bodyOf b 2) front (length (bodyOf b 3) / 2) (loadedWords b w) (holds .front) in
-      let x : arcsIn (loadedWords b w) ≡ bodyOf b 3 = arcs-in (bodyOf b 0) (bodyOf b 1) (bodyOf b 2) (bodyOf b 3) front arcs (loadedWords b w) holds in
-      part-length (countsIn (loadedWords b w)) (pairUp (arcsIn (loadedWords b w))) (rw (c, x) (omega (arith, all-arcs))) a h
-      ∙ count-at (loadedWords b w) loaded-sized a (omega (arith, counts-length (loadedWords b w) loaded-sized))
+      let c : countsIn (tableWords b) ≡ bodyOf b 2 = counts-in (bodyOf b 0) (bodyOf b 1) (bodyOf b 2) front (length (bodyOf b 3) / 2) (tableWords b) (holds .front) in
+      let x : arcsIn (tableWords b) ≡ bodyOf b 3 = arcs-in (bodyOf b 0) (bodyOf b 1) (bodyOf b 2) (bodyOf b 3) front arcs (tableWords b) holds in
+      part-length (countsIn (tableWords b)) (pairUp (arcsIn (tableWords b))) (rw (c, x) (omega (arith, all-arcs))) a h
+      ∙ count-at (tableWords b) loaded-sized a (omega (arith, counts-length (tableWords b) loaded-sized))
 
   small : All (λ (r : List Arc). All (λ (x : Arc). getD (bodyOf b 1) (x .0) 0 < 8) r) (rowsOf b)
   unfolding netOf
@@ -86,36 +75,45 @@ module _ (b w : List ℕ) (size : length w ≡ netWords) (taken : loadCode b ≡
       (λ i h. promise b taken .arc-once i (omega (arith, length-parts (bodyOf b 2) (pairUp (bodyOf b 3)))))
 
   loaded-index : (a k : ℕ) → a < netOf b .acts → k < netOf b .kinds
-      → getD (loadedWords b w) (1172 + 8 * a + k) 0 ≡ pick (takes (netOf b) a k) (pack (inputOf (netOf b) a k, outputOf (netOf b) a k)) 0
-  unfolding loadedWords netOf
+      → getD (tableWords b) (1172 + 8 * a + k) 0 ≡ pick (takes (netOf b) a k) (pack (inputOf (netOf b) a k, outputOf (netOf b) a k)) 0
+  unfolding tableWords netOf
   loaded-index a k h g =
       let l : length (rowsOf b) ≡ length (bodyOf b 2) = length-parts (bodyOf b 2) (pairUp (bodyOf b 3)) in
       let B : List ℕ = bodyWords (bodyOf b 0) (bodyOf b 1) (bodyOf b 2) (bodyOf b 3) in
       let z : length B ≡ netWords = body-words (bodyOf b 0) (bodyOf b 1) (bodyOf b 2) (bodyOf b 3) front arcs .front .size in
-      rw whole
-      (rows-at (λ (p : ℕ). getD (bodyOf b 1) p 0) 1172 (rowsOf b) B small once
-      (omega (arith, front .counts-few)) (no-words (bodyOf b 0) (bodyOf b 1) (bodyOf b 2) (bodyOf b 3) front arcs) a k (omega arith) (omega (arith, promise b taken .kinds-le)))
+      rows-at (λ (p : ℕ). getD (bodyOf b 1) p 0) 1172 (rowsOf b) B small once
+      (omega (arith, front .counts-few)) (no-words (bodyOf b 0) (bodyOf b 1) (bodyOf b 2) (bodyOf b 3) front arcs) a k (omega arith) (omega (arith, promise b taken .kinds-le))
 
--- loading overwrites all words: what they were before does not matter
-pub loaded-same : (b w v : List ℕ) → length w ≡ netWords → length v ≡ netWords → loadCode b ≡ 0 → loadedWords b w ≡ loadedWords b v
-loaded-same b w v e f z = loaded-is b w e z ∙ sym (loaded-is b v f z)
+-- the same, beside the words before
+module _ (b w : List ℕ) (size : length w ≡ netWords) (taken : loadCode b ≡ 0) where
+  pub held-net : netIn (loadedWords b w) ≡ netOf b
+  unfolding loadedWords
+  held-net = tabled b taken (tableWords b) refl .net
+
+  pub loaded-held : Held (loadedWords b w)
+  unfolding loadedWords
+  loaded-held = tabled b taken (tableWords b) refl .held
+
+  pub loaded-tabled : (v : List ℕ) → v ≡ loadedWords b w → Tabled v b
+  unfolding loadedWords
+  loaded-tabled v e = tabled b taken v e
 
 -- the same of any words that hold a loaded net
 module _ (w : List ℕ) (H : Held w) where
   table-net : netIn w ≡ netOf (H .table)
-  table-net = ap netIn (H .words) ∙ held-net (H .table) (H .before) (H .size) (H .taken)
+  table-net = tabled (H .table) (H .taken) w (H .words) .net
 
   pub held-loaded : Loaded (netIn w)
   held-loaded = subst Loaded (sym table-net) (promise (H .table) (H .taken))
 
   pub held-sized : Sized w
-  held-sized = subst Sized (sym (H .words)) (loaded-sized (H .table) (H .before) (H .size) (H .taken))
+  held-sized = subst Sized (sym (H .words)) (loaded-sized (H .table) (H .taken))
 
   -- the number of arcs of activity a
   pub held-arcs : (a : ℕ) → a < netIn w .acts → length (netIn w .arcs a) ≡ getD w (84 + a) 0
   held-arcs =
       subst (λ (v : List ℕ). (a : ℕ) → a < netIn v .acts → length (netIn v .arcs a) ≡ getD v (84 + a) 0) (sym (H .words))
-      (loaded-arcs (H .table) (H .before) (H .size) (H .taken))
+      (loaded-arcs (H .table) (H .taken))
 
   -- the look-up word of activity a and kind k
   pub index-at : (a k : ℕ) → a < netIn w .acts → k < netIn w .kinds
@@ -123,7 +121,7 @@ module _ (w : List ℕ) (H : Held w) where
   index-at =
       subst (λ (N : Net). (a k : ℕ) → a < N .acts → k < N .kinds → getD w (1172 + 8 * a + k) 0 ≡ pick (takes N a k) (pack (inputOf N a k, outputOf N a k)) 0)
       (sym table-net)
-      (λ a k h g. ap (λ (v : List ℕ). getD v (1172 + 8 * a + k) 0) (H .words) ∙ loaded-index (H .table) (H .before) (H .size) (H .taken) a k h g)
+      (λ a k h g. ap (λ (v : List ℕ). getD v (1172 + 8 * a + k) 0) (H .words) ∙ loaded-index (H .table) (H .taken) a k h g)
 
   -- the arc of a kind that activity a takes joins known places
   pub arc-in : (a k : ℕ) → a < netIn w .acts → takes (netIn w) a k ≡ true → GoodArc (netIn w) (inputOf (netIn w) a k, outputOf (netIn w) a k)

@@ -11,9 +11,9 @@ use borrow.Author.Tests.{eqb-true, eqb-false, eq-eqb, ne-eqb}
 use mathlib.Core.Logic.{inl}
 use Rattle.words.specs.Lists.{pick, All, has, twice}
 use Rattle.words.proofs.Lists.{clash}
+use Rattle.words.proofs.Sets.{view-set}
 use Rattle.net.specs.Net.{Arc, arcOf}
 use Rattle.net.specs.Held.{pack, indexRow, indexRows}
-use Rattle.net.proofs.Sets.{view-set}
 
 module _ (kindOf : ℕ → ℕ) where
   -- the kinds of arcs

@@ -3,12 +3,7 @@ pub mod BodyWords
 pub mod HeldLaws
 pub mod IndexLaws
 pub mod Marks
-pub mod Parts
 pub mod Promise
 pub mod Room
 pub mod RowsHold
-pub mod Scan
-pub mod Search
-pub mod Sets
-pub mod Stores
 pub mod Views

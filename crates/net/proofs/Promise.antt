@@ -2,7 +2,7 @@
 use Prim.Native.Nat.{ℕ, _%_, _≤_, _<_}
 use mathlib.Core.Bool.{Bool, true, false, not}
 use mathlib.Core.Logic.{_↔_}
-use mathlib.Core.Path.{_≡_, sym}
+use mathlib.Core.Path.{_≡_, sym, _∙_}
 use mathlib.Core.List.{List, [], _∷_, _++_}
 use native.Mathlib.Omega.{arith}
 use lib.ListN.{length}
@@ -11,11 +11,12 @@ use borrow.Author.Tests.{leb-false, ltb-false, eqb-false, not-false}
 use Rattle.words.specs.Lists.{any, anyTo, either, All, twice, pairUp, parts}
 use Rattle.words.specs.Words.{bodyOf}
 use Rattle.words.proofs.Lists.{pos, is-eq, any-none, anyTo-none, All-at, All-to}
-use Rattle.words.proofs.Refusals.{None, none-apply, none-split}
+use Rattle.words.proofs.Refusals.{None, none-apply, none-split, none-applies}
+use Rattle.words.proofs.Scan.{either-one}
+use Rattle.words.proofs.Parts.{sum, length-parts, part-length, All-parts, in-whole, in-part}
 use Rattle.net.specs.Net.{Net, Arc, Reaches, stay, along, GoodArc, Loaded, kindsOf}
 use Rattle.net.specs.Table.{netFrom, netOf, marked, badEnds, badCount, badArc, shapeTests, endTests, arcTests, loadTests, loadCode}
 use Rattle.net.proofs.Marks.{Walk, rest, on, marked-is}
-use Rattle.net.proofs.Parts.{sum, length-parts, part-length, All-parts, part-in, in-part}
 use Rattle.net.proofs.Bodies.{Shaped, shaped}
 use Rattle.net.specs.Limits.{maxTable}
 
@@ -70,7 +71,7 @@ module _ (ends places counts arcs : List ℕ) where
 
       back : (q : ℕ) → Reaches (netFrom ends places counts arcs) s q → Walk (pairUp arcs) s q
       back q stay = rest
-      back q (along a h x i r) = on x (part-in counts (pairUp arcs) a x i) (back (x .0) r)
+      back q (along a h x i r) = on x (in-whole counts (pairUp arcs) a x i) (back (x .0) r)
 
   module _ (e : None (endTests ends places counts arcs)) where
     counts-sum : sum counts ≡ length (pairUp arcs)
@@ -95,6 +96,9 @@ module _ (ends places counts arcs : List ℕ) where
         → Loaded (netFrom ends places counts arcs)
     promise-from t k p a =
         let N : Net = netFrom ends places counts arcs in
+        let seven : any (badArc N) (pairUp arcs) ≡ false = either-one _ ∙ none-applies 7 (arcTests ends places counts arcs) t in
+        let eight : any (λ (r : List Arc). twice (kindsOf N r)) (parts counts (pairUp arcs)) ≡ false = either-one _ ∙ none-applies 8 (arcTests ends places counts arcs) t in
+        let nine : anyTo (N .kinds) (λ (k : ℕ). not (marked (N .places) (pairUp arcs) (N .source k) (N .sink k))) ≡ false = either-one _ ∙ none-applies 9 (arcTests ends places counts arcs) t in
         record {
           kinds-ge = k .0;
           kinds-le = k .1;
@@ -113,11 +117,11 @@ module _ (ends places counts arcs : List ℕ) where
           arcs-le = λ a h. let c = All-at (λ (n : ℕ). (1 ≤ n) × (n ≤ 8)) 0 counts (counts-good counts (e .1 .1 .0)) a h in
               omega (arith, part-length counts (pairUp arcs) (omega (arith, counts-sum)) a h, c .1);
           arc-good = λ a h. All-at (λ (r : List Arc). All (GoodArc N) r) [] (parts counts (pairUp arcs))
-              (All-parts (GoodArc N) counts (pairUp arcs) (arcs-good N (pairUp arcs) (t .0))) a (omega (arith, length-parts counts (pairUp arcs)));
+              (All-parts (GoodArc N) counts (pairUp arcs) (arcs-good N (pairUp arcs) seven)) a (omega (arith, length-parts counts (pairUp arcs)));
           arc-once = λ a h. All-at (λ (r : List Arc). twice (kindsOf N r) ≡ false) [] (parts counts (pairUp arcs))
-              (any-none (λ (r : List Arc). twice (kindsOf N r)) (λ (r : List Arc). twice (kindsOf N r) ≡ false) (λ r q. q) (parts counts (pairUp arcs)) (t .1 .0)) a
+              (any-none (λ (r : List Arc). twice (kindsOf N r)) (λ (r : List Arc). twice (kindsOf N r) ≡ false) (λ r q. q) (parts counts (pairUp arcs)) eight) a
               (omega (arith, length-parts counts (pairUp arcs)));
-          reached = λ k h. nine-from (t .0) k h .0 (not-false _ (anyTo-none (N .kinds) _ (t .1 .1 .0) k h));
+          reached = λ k h. nine-from seven k h .0 (not-false _ (anyTo-none (N .kinds) _ nine k h));
         }
 
 -- no test applies to a table that is taken

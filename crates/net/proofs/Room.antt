@@ -8,11 +8,10 @@ use lib.ListN.{length}
 use Rattle.words.specs.Lists.{any, pairUp}
 use Rattle.words.specs.Words.{word, bodyOf}
 use Rattle.words.proofs.Sums.{total-le, total-const}
+use Rattle.words.proofs.Parts.{sum, length-pairs}
 use Rattle.net.specs.Table.{badCount}
-use Rattle.net.proofs.Views.{length-pairs}
 use Rattle.net.proofs.Bodies.{Shaped}
 use Rattle.net.proofs.BodyWords.{FitFront, FitArcs}
-use Rattle.net.proofs.Parts.{sum}
 use Rattle.net.proofs.Promise.{counts-good}
 
 -- numbers two by two

@@ -1,10 +1,9 @@
 -- Every row holds, computed. Assumes nothing.
-use mathlib.Core.Bool.{false}
-use mathlib.Core.Path.{_≡_, refl}
+use mathlib.Core.Path.{refl}
 use Rattle.words.specs.Words.{word, wordsOf, bytesOf, bodiesFrom, bodiesOf, bodyOf}
-use Rattle.net.specs.Table.{netOf, marked, loadCode}
-use Rattle.net.specs.Rows.{tableM, rows, holds, someFail}
+use Rattle.net.specs.Table.{marked, loadCode}
+use Rattle.net.specs.Rows.{tableM, rows, orderRows, RowsHold}
 
-pub rows-hold : someFail ≡ false
-unfolding someFail rows holds tableM loadCode marked netOf word wordsOf bytesOf bodiesFrom bodiesOf bodyOf
-rows-hold = refl
+pub rows-hold : RowsHold
+unfolding rows orderRows tableM loadCode marked word wordsOf bytesOf bodiesFrom bodiesOf bodyOf
+rows-hold = (refl, (refl, (refl, (refl, (refl, (refl, (refl, (refl, tt))))))))

@@ -51,11 +51,15 @@ frontWords ends places counts n =
 unfoldable pub bodyWords : List ℕ → List ℕ → List ℕ → List ℕ → List ℕ
 bodyWords ends places counts arcs = sets (frontWords ends places counts (length arcs / 2)) 148 arcs
 
--- what loading the bytes b leaves of the lent words w
-unfoldable pub loadedWords : List ℕ → List ℕ → List ℕ
-loadedWords b w =
+-- what loading the bytes b leaves in lent words: it writes all of them
+unfoldable pub tableWords : List ℕ → List ℕ
+tableWords b =
     indexRows (λ (p : ℕ). getD (bodyOf b 1) p 0) 1172 (parts (bodyOf b 2) (pairUp (bodyOf b 3)))
-    (sets w 0 (bodyWords (bodyOf b 0) (bodyOf b 1) (bodyOf b 2) (bodyOf b 3)))
+    (bodyWords (bodyOf b 0) (bodyOf b 1) (bodyOf b 2) (bodyOf b 3))
+
+-- the same, beside the words before, which do not matter
+unfoldable pub loadedWords : List ℕ → List ℕ → List ℕ
+loadedWords b w = tableWords b
 
 -- the words w with the sizes and the first three bodies of the bytes b in front
 unfoldable pub frontOver : List ℕ → List ℕ → List ℕ
@@ -64,15 +68,13 @@ frontOver b w =
 
 -- the lent words after a call of loading: unchanged where the table is refused
 unfoldable pub afterLoad : List ℕ → List ℕ → List ℕ
-afterLoad b w = pick (eqb (loadCode b) 0) (loadedWords b w) w
+afterLoad b w = pick (eqb (loadCode b) 0) (tableWords b) w
 
--- the words are what loading some table left in 1684 lent words
+-- the words are what loading some table leaves
 pub record Held (w : List ℕ) : Type 0 where
   pub table : List ℕ
-  pub before : List ℕ
-  pub size : length before ≡ netWords
   pub taken : loadCode table ≡ 0
-  pub words : w ≡ loadedWords table before
+  pub words : w ≡ tableWords table
 
 -- the words hold the net of a table file that loads
 pub record Tabled (w table : List ℕ) : Type 0 where

@@ -9,10 +9,10 @@ use mathlib.Core.List.{List, [], _∷_}
 use lib.ListN.{length, getD, set, take, drop, length-set, drop-of-length-le}
 use lib.Seq.{drop-cons, drop-drop, getD-set-other}
 use Rattle.words.specs.Lists.{parts}
+use Rattle.words.proofs.Sets.{view-set}
 use Rattle.net.specs.Net.{Arc}
 use Rattle.net.specs.Held.{endsIn, placesIn, countsIn, arcsIn, netIn, pack, indexRow, indexRows}
 use Rattle.net.specs.Ruled.{Ruled}
-use Rattle.net.proofs.Sets.{view-set}
 use Rattle.net.proofs.IndexLaws.{rows-length, rows-view, rows-before}
 
 module _ (kindOf : ℕ → ℕ) (base : ℕ) (row : List Arc) (i : ℕ) (t : List ℕ) where

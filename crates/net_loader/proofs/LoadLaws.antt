@@ -1,10 +1,10 @@
 -- Loading, step by step: what the words hold after each, and what the tests on words say of the bytes. Assumes nothing.
 use Prim.Native.Nat.{ℕ, _+_, _/_, _≤_}
 use mathlib.Core.Bool.{Bool, false}
-use mathlib.Core.Path.{_≡_, ap, sym, _∙_, subst}
+use mathlib.Core.Path.{_≡_, refl, sym, _∙_, subst}
 use mathlib.Core.List.{List, _++_}
 use native.Mathlib.Omega.{arith}
-use lib.ListN.{length, getD, replicate, length-replicate}
+use lib.ListN.{length, replicate}
 use lib.Seq.{sets}
 use borrow.Author.Tests.{eq-eqb, ne-eqb}
 use Rattle.words.specs.Lists.{any, pairUp, parts}
@@ -12,15 +12,15 @@ use Rattle.words.specs.Refusals.{first}
 use Rattle.words.specs.Words.{word, bodyOf}
 use Rattle.words.proofs.Lists.{is-eq}
 use Rattle.words.proofs.Refusals.{None, none-apply, first-then, first-stays, first-le}
+use Rattle.words.proofs.Sets.{sets-all}
+use Rattle.words.proofs.Parts.{length-pairs}
 use Rattle.net.specs.Table.{badArc, shapeTests, endTests, arcTests, loadTests, loadCode}
-use Rattle.net.specs.Held.{endsIn, placesIn, countsIn, arcsIn, netIn, frontWords, bodyWords, indexRows, frontOver, loadedWords, afterLoad, Sized}
+use Rattle.net.specs.Held.{endsIn, placesIn, countsIn, arcsIn, netIn, frontWords, bodyWords, indexRows, frontOver, tableWords, afterLoad, Sized}
 use Rattle.net.specs.Ruled.{frontTests, Fronted, Ruled}
 use Rattle.net.proofs.Bodies.{Shaped, shaped}
 use Rattle.net.proofs.BodyWords.{FitFront, FitArcs, Front, Holds, front-words, with-arcs, ends-in, places-in, counts-in, arcs-in, sized}
 use Rattle.net.proofs.Room.{fit-front, fit-arcs}
-use Rattle.net.proofs.Sets.{sets-all}
-use Rattle.net.proofs.HeldLaws.{loaded-held, loaded-same, held-sized}
-use Rattle.net.proofs.Views.{length-pairs}
+use Rattle.net.proofs.HeldLaws.{tabled, held-sized}
 use Rattle.net.specs.Limits.{netWords}
 
 -- words to which neither 3 to 6 nor 7 applies
@@ -38,17 +38,14 @@ pub refused-words : (b t : List ℕ) → (loadCode b ≡ 0 → ⊥) → t ≡ af
 unfolding afterLoad
 refused-words b t n = rw (ne-eqb (loadCode b) 0 n)
 
--- a table that is taken, loaded into zeros: 1,684 words, and over the lent words they are what loading leaves of those
+-- a table that is taken: 1,684 words, which over the lent words are what loading leaves of those
 module _ (b : List ℕ) (z : loadCode b ≡ 0) where
-  zeros : length {A = ℕ} (replicate netWords 0) ≡ netWords
-  zeros = length-replicate {A = ℕ} netWords 0
+  pub loaded-length : length (tableWords b) ≡ netWords
+  loaded-length = held-sized (tableWords b) (tabled b z (tableWords b) refl .held) .size
 
-  pub loaded-length : length (loadedWords b (replicate netWords 0)) ≡ netWords
-  loaded-length = held-sized (loadedWords b (replicate netWords 0)) (loaded-held b (replicate netWords 0) zeros z) .size
-
-  pub taken-words : (t : List ℕ) → length t ≡ netWords → sets t 0 (loadedWords b (replicate netWords 0)) ≡ afterLoad b t
+  pub taken-words : (t : List ℕ) → length t ≡ netWords → sets t 0 (tableWords b) ≡ afterLoad b t
   unfolding afterLoad
-  taken-words t e = rw (eq-eqb (loadCode b) 0 z) (sets-all t (loadedWords b (replicate netWords 0)) (e ∙ sym loaded-length) ∙ loaded-same b (replicate netWords 0) t zeros e z)
+  taken-words t e = rw (eq-eqb (loadCode b) 0 z) (sets-all t (tableWords b) (e ∙ sym loaded-length))
 
 -- the tests behind those of the shape
 abbrev bodyTests : List ℕ → List (Bool × ℕ)
@@ -136,9 +133,7 @@ module _ (b : List ℕ) (z : first (shapeTests b) ≡ 0) where
     unfolding netIn
     ruled x = ruled-by w2 fronted (none-apply (arcTests (endsIn w2) (placesIn w2) (countsIn w2) (arcsIn w2)) (omega arith) x .0)
 
-    -- the words, with the look-up words of their net stored too, are what loading leaves of zeros
-    pub loaded : indexRows (netIn w2 .kindOf) 1172 (parts (countsIn w2) (pairUp (arcsIn w2))) w2 ≡ loadedWords b (replicate netWords 0)
-    unfolding loadedWords netIn bodyWords
-    loaded =
-        rw (ends-in A B C front (length D / 2) w2 (H2 .front), places-in A B C front (length D / 2) w2 (H2 .front), counts-in A B C front (length D / 2) w2 (H2 .front), arcs-in A B C D front arcs w2 H2, sym w1-is)
-        (ap (indexRows (λ (p : ℕ). getD B p 0) 1172 (parts C (pairUp D))) (sym (sets-all (replicate netWords 0) w2 (length-replicate {A = ℕ} netWords 0 ∙ sym (H2 .front .size)))))
+    -- the words, with the look-up words of their net stored too, are what loading leaves
+    pub loaded : indexRows (netIn w2 .kindOf) 1172 (parts (countsIn w2) (pairUp (arcsIn w2))) w2 ≡ tableWords b
+    unfolding tableWords netIn bodyWords
+    loaded = rw (ends-in A B C front (length D / 2) w2 (H2 .front), places-in A B C front (length D / 2) w2 (H2 .front), counts-in A B C front (length D / 2) w2 (H2 .front), arcs-in A B C D front arcs w2 H2, sym w1-is)

@@ -1,94 +1,110 @@
-// Reading the case file.
+// Reading the case file: the numbers of a case go into a buffer; the last one, how many bytes of them are loaded, does not.
 
-ghost use Prim.Native.Nat.{_<_, _≤_};
-ghost use lib.ListN.{length};
+use crate::show::load;
+use crate::show::put_byte;
 
-// A number of a line, and where the reading goes on; or where it stopped because there is none.
-pub struct Found {
-    pub there: bool,
-    pub value: u32,
-    pub next: usize,
+// No number of numbers: the case cannot be read.
+const BAD: usize = 4294967295;
+
+// Where the reading is.
+pub struct State {
+    // Numbers are read, and no text.
+    pub case: bool,
+    // The digits so far of the number that is being read.
+    number: usize,
+    // The number before a star, or 0.
+    back: usize,
+    // How many numbers are in the buffer.
+    count: usize,
 }
 
-pub fn byte(s: &[u8], at: usize) -> u8 {
-    if at < s.len() { s[at] } else { 0 }
+pub fn at(case: bool, number: usize, back: usize, count: usize) -> State {
+    State {
+        case: case,
+        number: number,
+        back: back,
+        count: count,
+    }
 }
 
-// Behind the first byte from `at` on that is b, or the end.
-pub fn after(s: &[u8], at: usize, b: u8) -> usize
-    ensures { λ r. ⌜ (r ≤ length (now (s .entry))) × (at < length (now (s .entry)) → at < r) ⌝ }
-{
-    let mut i = at;
-    while i < s.len() {
-        if s[i] == b {
-            return i + 1;
-        }
+pub fn bad() {
+    io::write_all(libc::STDOUT_FILENO, b" bad case\n");
+}
+
+// One digit more, up to a number over 2^32 - 1.
+fn more(x: usize, c: u8) -> usize {
+    if 4294967295 < x {
+        x
+    } else {
+        10 * x + (c % 16) as usize
+    }
+}
+
+// Puts x behind the n numbers of the buffer. How many they are then.
+fn put(b: &mut [u8; 4800], n: usize, x: usize) -> usize {
+    if 1200 <= n {
+        return BAD;
+    }
+    if 4294967295 < x {
+        return BAD;
+    }
+    words::put_word(b, n, x as u32);
+    n + 1
+}
+
+// Puts so many numbers behind the n of the buffer, each the one that stands `back` numbers before it.
+fn repeat(b: &mut [u8; 4800], n: usize, back: usize, times: usize) -> usize {
+    if n < back {
+        return BAD;
+    }
+    if 1200 < n {
+        return BAD;
+    }
+    if 1200 - n < times {
+        return BAD;
+    }
+    let mut i = 0;
+    while i < times {
+        let x = words::word_at(b, 4 * (n + i - back));
+        words::put_word(b, n + i, x);
         i += 1;
     }
-    s.len()
+    n + times
 }
 
-// Writes the bytes from a to e.
-pub fn put_part(s: &[u8], a: usize, e: usize) {
-    if a <= e {
-        if e <= s.len() {
-            io::write_all(libc::STDOUT_FILENO, &s[a..e]);
-        }
+// Loads the first bytes of the n numbers.
+fn attempt(b: &[u8; 4800], n: usize, size: usize) {
+    if 1200 < n {
+        return bad();
+    }
+    if 4 * n < size {
+        return bad();
+    }
+    let t: &[u8] = b;
+    load(&t[0..size]);
+    put_byte(b'\n');
+}
+
+// A byte of a case, before the end of its line: `5 ` puts 5, `16*32;` puts the last 16 numbers twice more.
+fn digit(b: &mut [u8; 4800], l: State, c: u8) -> State {
+    match c {
+        b'0'..=b'9' => at(true, more(l.number, c), l.back, l.count),
+        b'*' => at(true, 0, l.number, l.count),
+        b' ' => at(true, 0, 0, put(b, l.count, l.number)),
+        b';' => at(true, 0, 0, repeat(b, l.count, l.back, l.number)),
+        _ => at(true, 0, 0, BAD),
     }
 }
 
-// What the byte is to a case: 0 to 9 a digit, 10 a byte between numbers, 11 any other.
-fn class(b: u8) -> u8 {
-    match b {
-        b'0'..=b'9' => b - 48,
-        b' ' | b',' | b'=' | b'M' | b'a'..=b'z' => 10,
-        _ => 11,
+// A byte of the file. A bar begins a case, and is written too.
+pub fn step(b: &mut [u8; 4800], l: State, c: u8) -> State {
+    if !l.case {
+        put_byte(c);
+        return at(c == b'|', 0, 0, 0);
     }
-}
-
-// No number: the reading stops.
-pub fn nothing(next: usize) -> Found {
-    Found {
-        there: false,
-        value: 0,
-        next: next,
+    if c == b'\n' {
+        attempt(b, l.count, l.number);
+        return at(false, 0, 0, 0);
     }
-}
-
-// The number whose first digit is byte `at`, unless it is over 2^32 - 1.
-fn digits(s: &[u8], at: usize) -> Found {
-    let mut x: u64 = 0;
-    let mut i = at;
-    while i < s.len() {
-        let c = class(s[i]);
-        if 9 < c {
-            return Found {
-                there: true,
-                value: x as u32,
-                next: i,
-            };
-        }
-        x = 10 * x + (c as u64);
-        if 4294967295 < x {
-            return nothing(s.len());
-        }
-        i += 1;
-    }
-    nothing(i)
-}
-
-// The next number from `at` on, if there is one before a byte that stands neither in nor between numbers.
-pub fn number(s: &[u8], at: usize) -> Found {
-    let mut i = at;
-    while i < s.len() {
-        let c = class(s[i]);
-        if c < 10 {
-            return digits(s, i);
-        }
-        if 10 < c {
-            return nothing(i);
-        }
-        i += 1;
-    }
-    nothing(i)
+    digit(b, l, c)
 }

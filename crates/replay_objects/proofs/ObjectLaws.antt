@@ -12,7 +12,7 @@ use lib.Seq.{sets, drop-cons, length-sets}
 use borrow.Author.Tests.{le-leb, lt-leb, ne-eqb}
 use Rattle.words.specs.Lists.{pick, any, one}
 use Rattle.net.specs.Net.{Net, takes}
-use Rattle.net.proofs.Sets.{view-same}
+use Rattle.words.proofs.Sets.{view-same}
 use Rattle.replay.specs.Plain.{objectKinds}
 
 pub next : (os : List ℕ) (i : ℕ) → i < length os → drop i os ≡ getD os i 0 ∷ drop (i + 1) os

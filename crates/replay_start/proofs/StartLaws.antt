@@ -16,7 +16,7 @@ use Rattle.net.specs.Net.{Net, Loaded}
 use Rattle.net.specs.Table.{netOf}
 use Rattle.net.specs.Held.{netIn}
 use Rattle.net.proofs.Promise.{promise, table-size}
-use Rattle.net.proofs.Sets.{sets-all}
+use Rattle.words.proofs.Sets.{sets-all}
 use Rattle.replay.specs.Plain.{registerTests, registerCode}
 use Rattle.replay.specs.State.{State, startState}
 use Rattle.replay.specs.Sound.{Sound}

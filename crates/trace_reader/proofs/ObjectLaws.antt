@@ -9,7 +9,7 @@ use lib.Seq.{sets}
 use Rattle.words.specs.Lists.{pick}
 use Rattle.words.specs.Words.{word, wordsOf, wordsAt}
 use Rattle.words.proofs.Words.{words-take, words-read}
-use Rattle.net.proofs.Sets.{view-same}
+use Rattle.words.proofs.Sets.{view-same}
 
 -- the bytes of n numbers from byte i on hold these numbers
 pub bytes-objects : (b : List ℕ) (n i : ℕ) → i + 4 * n ≤ length b → wordsOf (take (4 * n) (drop i b)) ≡ wordsAt b i n

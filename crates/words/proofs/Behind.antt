@@ -1,15 +1,15 @@
 -- A number read or written through the part of the bytes that begins at number `base`. Assumes nothing.
 use Prim.Native.Nat.{ℕ, zero, suc, _+_, _*_, _-_, _^_, _≤_, _<_}
-use mathlib.Core.Path.{_≡_, refl, ap, sym, _∙_, subst}
+use mathlib.Core.Path.{_≡_, refl, ap, sym, _∙_}
 use mathlib.Core.List.{List, [], _∷_, _++_, append-nil}
 use native.Mathlib.Nat.{zero-add, suc-add}
 use native.Mathlib.Omega.{arith}
-use lib.ListN.{length, getD, set, take, drop, length-take, length-drop, drop-of-length-le}
+use lib.ListN.{length, getD, set, take, drop, length-drop, drop-of-length-le}
 use lib.Seq.{sets, take-all, getD-drop}
 use borrow.Rule.Slice.PartMut.{putMid}
 use Rattle.words.specs.Words.{wordsOf, bytesOf}
 use Rattle.words.specs.Put.{Put}
-use Rattle.words.proofs.Words.{room, length-words, words-put, words-drop}
+use Rattle.words.proofs.Words.{room, words-put, words-drop}
 
 -- numbers stored behind the first
 sets-more : (vs : List ℕ) (x : ℕ) (xs : List ℕ) (n : ℕ) → sets (x ∷ xs) (suc n) vs ≡ x ∷ sets xs n vs

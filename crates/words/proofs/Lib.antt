@@ -1,6 +1,11 @@
 pub mod Lists
 pub mod Refusals
 pub mod Sums
+pub mod Scan
+pub mod Search
+pub mod Parts
+pub mod Stores
+pub mod Sets
 pub mod Over
 pub mod Words
 pub mod Behind

@@ -132,6 +132,11 @@ pub length-upto : (n i : ℕ) → length (upto n i) ≡ n
 length-upto zero i = refl
 length-upto (suc n) i = ap suc (length-upto n (suc i))
 
+pub upto-at : (n j i : ℕ) → i < n → getD (upto n j) i 0 ≡ j + i
+upto-at zero j i h = absurd (omega arith)
+upto-at (suc n) j zero h = omega arith
+upto-at (suc n) j (suc i) h = omega (arith, upto-at n (suc j) i (omega arith))
+
 -- all of a list of numbers, and all between its ends
 pub upto-all : (P : ℕ → Type 0) (n i : ℕ) → All P (upto n i) ↔ ((o : ℕ) → i ≤ o → o < i + n → P o)
 upto-all P zero i = (λ a o h l. absurd (omega arith), λ f. tt)
@@ -148,7 +153,11 @@ anyTo-none n f e i h = upto-all (λ (i : ℕ). f i ≡ false) n 0 .0 (any-none f
 pub anyTo-false : (n : ℕ) (f : ℕ → Bool) → ((i : ℕ) → i < n → f i ≡ false) → anyTo n f ≡ false
 anyTo-false n f h = any-false f (upto n 0) (All-to (λ (o : ℕ). o < 0 + n) (λ (o : ℕ). f o ≡ false) (λ o l. h o (omega arith)) (upto n 0) (upto-in n 0))
 
+-- the same value in all places, and past the end
+pub same-at : {A : Type 0} (n i : ℕ) (a : A) → getD (replicate n a) i a ≡ a
+same-at zero i a = refl
+same-at (suc n) zero a = refl
+same-at (suc n) (suc i) a = same-at n i a
+
 pub zeros-at : (n i : ℕ) → getD {A = ℕ} (replicate n 0) i 0 ≡ 0
-zeros-at zero i = refl
-zeros-at (suc n) zero = refl
-zeros-at (suc n) (suc i) = zeros-at n i
+zeros-at n i = same-at n i 0

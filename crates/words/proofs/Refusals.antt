@@ -4,8 +4,10 @@ use mathlib.Core.Bool.{Bool, true, false}
 use mathlib.Core.Path.{_≡_, refl}
 use mathlib.Core.List.{List, [], _∷_, _++_}
 use native.Mathlib.Omega.{arith}
-use Rattle.words.specs.Lists.{pick, All}
+use lib.Dec.{eqb}
+use Rattle.words.specs.Lists.{pick, any, both, All}
 use Rattle.words.specs.Refusals.{first}
+use Rattle.words.proofs.Lists.{both-false}
 
 -- no test of the list holds
 abbrev pub None : List (Bool × ℕ) → Type 0
@@ -18,6 +20,14 @@ first-none false n r h e = (refl, e)
 pub none-apply : (ts : List (Bool × ℕ)) → All (λ (t : Bool × ℕ). 0 < t .1) ts → first ts ≡ 0 → None ts
 none-apply [] h e = tt
 none-apply (t ∷ ts) h e = let r = first-none (t .0) (t .1) (first ts) (h .0) e in (r .0, none-apply ts (h .1) (r .1))
+
+-- some test with the number n holds: a law about one number of a list does not depend on the list's order
+abbrev pub applies : ℕ → List (Bool × ℕ) → Bool
+applies n ts = any (λ (t : Bool × ℕ). both (eqb n (t .1)) (t .0)) ts
+
+pub none-applies : (n : ℕ) (ts : List (Bool × ℕ)) → None ts → applies n ts ≡ false
+none-applies n [] a = refl
+none-applies n (t ∷ ts) a = rw (both-false (eqb n (t .1)) (t .0) (λ e. a .0)) (none-applies n ts (a .1))
 
 pub first-zero : (ts : List (Bool × ℕ)) → None ts → first ts ≡ 0
 first-zero [] a = refl

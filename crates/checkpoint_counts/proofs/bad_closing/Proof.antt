@@ -1,7 +1,7 @@
 -- Each return is reached where the tests before it failed, and the last test decides. Assumes nothing.
 use native.Mathlib.Omega.{arith}
 use borrow.Author.Tests.{lt-ltb, le-ltb, eq-eqb, ne-eqb}
-use Rattle.net.proofs.Scan.{either-one}
+use Rattle.words.proofs.Scan.{either-one}
 use borrow.Author.Needs.{needs}
 use Rattle.checkpoint_counts.proofs.bad_closing.Statement.{statement}
 use Rattle.checkpoint_counts.proofs.bad_closing.Tie as tie

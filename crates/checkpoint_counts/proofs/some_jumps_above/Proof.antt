@@ -10,7 +10,7 @@ use Rattle.words.specs.Lists.{any, anyTo, upto}
 use Rattle.words.specs.Words.{wordsOf}
 use Rattle.net.specs.Held.{netIn}
 use Rattle.net.proofs.HeldLaws.{held-loaded}
-use Rattle.net.proofs.Scan.{anyTo-turn, anyTo-found, anyTo-end}
+use Rattle.words.proofs.Scan.{anyTo-turn, anyTo-found, anyTo-end}
 use borrow.Author.Needs.{needs}
 use Rattle.checkpoint_counts.proofs.some_jumps_above.Statement.{statement}
 use Rattle.checkpoint_counts.proofs.some_jumps_above.Tie as tie

@@ -6,7 +6,7 @@ use lib.ListN.{getD, drop}
 use lib.Dec.{ltb}
 use borrow.Author.Tests.{lt-ltb, le-ltb}
 use Rattle.words.specs.Lists.{any, anyTo, upto}
-use Rattle.net.proofs.Scan.{anyTo-turn, anyTo-found, anyTo-end}
+use Rattle.words.proofs.Scan.{anyTo-turn, anyTo-found, anyTo-end}
 use borrow.Author.Needs.{needs}
 use Rattle.checkpoint_jumps.proofs.above.Statement.{statement}
 use Rattle.checkpoint_jumps.proofs.above.Tie as tie

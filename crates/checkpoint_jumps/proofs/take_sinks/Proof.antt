@@ -6,7 +6,7 @@ use Rattle.words.specs.Lists.{one}
 use Rattle.words.proofs.Lists.{All-at}
 use Rattle.words.proofs.Words.{length-words}
 use Rattle.net.proofs.HeldLaws.{held-loaded}
-use Rattle.net.proofs.Scan.{total-turn, total-end}
+use Rattle.words.proofs.Scan.{total-turn, total-end}
 use Rattle.replay.proofs.Accepted.{closers-kinds, registered}
 use Rattle.checkpoint_jumps.proofs.Adding.{one-added}
 use Rattle.checkpoint_jumps.proofs.Taking.{one-le}

@@ -10,7 +10,7 @@ use Rattle.words.specs.Words.{wordsOf}
 use Rattle.words.proofs.Lists.{All-at}
 use Rattle.words.proofs.Words.{length-words}
 use Rattle.net.specs.Held.{netIn}
-use Rattle.net.proofs.Scan.{anyTo-turn, anyTo-found, anyTo-end}
+use Rattle.words.proofs.Scan.{anyTo-turn, anyTo-found, anyTo-end}
 use Rattle.replay.proofs.Accepted.{registered}
 use Rattle.checkpoint.specs.Bodies.{bodyState}
 use Rattle.checkpoint_positions.specs.Positions.{badPosition}

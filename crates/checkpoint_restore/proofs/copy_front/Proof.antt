@@ -5,7 +5,7 @@ use mathlib.Core.Path.{_≡_, refl, sym, _∙_}
 use native.Mathlib.Omega.{arith}
 use lib.ListN.{length, drop, length-set}
 use lib.Seq.{sets}
-use Rattle.net.proofs.Stores.{store-more, store-end}
+use Rattle.words.proofs.Stores.{store-more, store-end}
 use Rattle.words.proofs.Over.{sets-over}
 use borrow.Author.Needs.{needs}
 use Rattle.checkpoint_restore.proofs.copy_front.Statement.{statement}

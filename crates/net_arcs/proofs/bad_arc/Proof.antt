@@ -4,9 +4,9 @@ use mathlib.Core.List.{List}
 use native.Mathlib.Omega.{arith}
 use lib.ListN.{getD}
 use borrow.Author.Tests.{le-leb, lt-leb}
-use Rattle.net.proofs.Scan.{either-one}
-use Rattle.net.proofs.Views.{places-is, kind-at}
 use borrow.Author.Needs.{needs}
+use Rattle.words.proofs.Scan.{either-one}
+use Rattle.net.proofs.Views.{places-is, kind-at}
 use Rattle.net_arcs.proofs.bad_arc.Statement.{statement}
 use Rattle.net_arcs.proofs.bad_arc.Tie as tie
 

@@ -4,12 +4,12 @@ use mathlib.Core.List.{List}
 use mathlib.Core.Path.{_≡_, sym, _∙_}
 use native.Mathlib.Omega.{arith}
 use lib.ListN.{getD, drop}
+use borrow.Author.Needs.{needs}
 use Rattle.words.specs.Lists.{any, pairUp}
+use Rattle.words.proofs.Scan.{any-turn, any-found, any-end}
 use Rattle.net.specs.Table.{badArc}
 use Rattle.net.specs.Held.{netIn, arcsIn}
-use Rattle.net.proofs.Scan.{any-turn, any-found, any-end}
 use Rattle.net.proofs.Views.{arcs-length, arc-at}
-use borrow.Author.Needs.{needs}
 use Rattle.net_arcs.proofs.bad_arcs.Statement.{statement}
 use Rattle.net_arcs.proofs.bad_arcs.Tie as tie
 

@@ -5,12 +5,12 @@ use mathlib.Core.Path.{_≡_, _∙_}
 use native.Mathlib.Omega.{arith}
 use lib.ListN.{getD, drop}
 use borrow.Author.Tests.{lt-ltb, le-ltb, eq-eqb, ne-eqb}
+use borrow.Author.Needs.{needs}
 use Rattle.words.specs.Lists.{any}
+use Rattle.words.proofs.Scan.{any-turn, any-found, any-end}
 use Rattle.net.specs.Table.{badCount}
 use Rattle.net.specs.Held.{countsIn}
-use Rattle.net.proofs.Scan.{any-turn, any-found, any-end}
 use Rattle.net.proofs.Views.{counts-length, count-at}
-use borrow.Author.Needs.{needs}
 use Rattle.net_arcs.proofs.bad_counts.Statement.{statement}
 use Rattle.net_arcs.proofs.bad_counts.Tie as tie
 

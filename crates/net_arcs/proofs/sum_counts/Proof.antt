@@ -4,11 +4,11 @@ use mathlib.Core.List.{List}
 use mathlib.Core.Path.{_≡_, sym, _∙_}
 use native.Mathlib.Omega.{arith}
 use lib.ListN.{getD, drop}
-use Rattle.words.specs.Lists.{total}
-use Rattle.net.specs.Held.{countsIn}
-use Rattle.net.proofs.Scan.{total-turn, total-end}
-use Rattle.net.proofs.Views.{counts-length, count-at}
 use borrow.Author.Needs.{needs}
+use Rattle.words.specs.Lists.{total}
+use Rattle.words.proofs.Scan.{total-turn, total-end}
+use Rattle.net.specs.Held.{countsIn}
+use Rattle.net.proofs.Views.{counts-length, count-at}
 use Rattle.net_arcs.proofs.sum_counts.Statement.{statement}
 use Rattle.net_arcs.proofs.sum_counts.Tie as tie
 

@@ -7,7 +7,7 @@ use Rattle.words.specs.Lists.{pairUp, parts}
 use Rattle.words.specs.Refusals.{first}
 use Rattle.words.specs.Words.{bodyOf}
 use Rattle.net.specs.Table.{arcTests, loadCode}
-use Rattle.net.specs.Held.{Sized, frontOver, loadedWords, netIn, indexRows, endsIn, placesIn, countsIn, arcsIn}
+use Rattle.net.specs.Held.{Sized, frontOver, netIn, indexRows, endsIn, placesIn, countsIn, arcsIn}
 use Rattle.net.specs.Ruled.{Fronted, Ruled, frontTests}
 use Rattle.net_loader.proofs.LoadLaws.{shape, sized-1, front-refused, arcs-room, fronted, arcs-code, ruled, loaded}
 use borrow.Author.Needs.{needs}
@@ -73,7 +73,7 @@ returns-3 c =
     let z : loadCode (s .args .s .now) ≡ 0 = sym (code-is d) ∙ c .before .before .if2 .left in (
       sym z,
       λ e. subst (λ (w : _). c .index-arcs .last .0 ≡ indexRows (netIn w .kindOf) 1172 (parts (countsIn w) (pairUp (arcsIn w))) w) (arcs-are (d .before .before)) (c .index-arcs .ensures)
-          ∙ loaded (s .args .s .now) (s .pre .0) (no-front (d .before .before .before .before)) ∙ ap (loadedWords (s .args .s .now)) (sym (s .pre .1)),
+          ∙ loaded (s .args .s .now) (s .pre .0) (no-front (d .before .before .before .before)),
     )
 
 pub load-bodies-spec : {M : Type 1} → statement M

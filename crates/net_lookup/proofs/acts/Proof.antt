@@ -1,4 +1,4 @@
--- `look::acts` meets its contract: how many activities, as the words' front says. Assumes nothing.
+-- `acts` meets its contract: how many activities, as the words' front says. Assumes nothing.
 use mathlib.Core.Path.{sym, _∙_}
 use borrow.Author.Needs.{needs}
 use Rattle.net.proofs.Views.{acts-is}

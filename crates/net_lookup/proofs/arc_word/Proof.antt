@@ -1,4 +1,4 @@
--- `look::arc_word` meets its contract: the word at the activity's row and the kind. Assumes nothing.
+-- `arc_word` meets its contract: the word at the activity's row and the kind. Assumes nothing.
 use Prim.Native.Nat.{_+_, _*_, _-_, _<_}
 use mathlib.Core.Path.{_∙_}
 use native.Mathlib.Omega.{arith}

@@ -1,4 +1,4 @@
--- `look::arcs` meets its contract: how many arcs an activity has, by its word. Assumes nothing.
+-- `arcs` meets its contract: how many arcs an activity has, by its word. Assumes nothing.
 use mathlib.Core.Path.{sym, _∙_}
 use native.Mathlib.Omega.{arith}
 use borrow.Author.Needs.{needs}

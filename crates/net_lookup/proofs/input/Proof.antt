@@ -1,4 +1,4 @@
--- `look::input` meets its contract: the input place of a kind, out of the look-up word. Assumes nothing.
+-- `input` meets its contract: the input place of a kind, out of the look-up word. Assumes nothing.
 use borrow.Author.Needs.{needs}
 use Rattle.net.proofs.HeldLaws.{unpacked}
 use Rattle.net_lookup.proofs.input.Statement.{statement}

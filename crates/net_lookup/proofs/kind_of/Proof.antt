@@ -1,4 +1,4 @@
--- `look::kind_of` meets its contract: the kind of a place, by its word. Assumes nothing.
+-- `kind_of` meets its contract: the kind of a place, by its word. Assumes nothing.
 use mathlib.Core.Path.{sym, _∙_}
 use native.Mathlib.Omega.{arith}
 use borrow.Author.Needs.{needs}

@@ -1,4 +1,4 @@
--- `look::kinds` meets its contract: how many kinds, as the words' front says. Assumes nothing.
+-- `kinds` meets its contract: how many kinds, as the words' front says. Assumes nothing.
 use mathlib.Core.Path.{sym, _∙_}
 use borrow.Author.Needs.{needs}
 use Rattle.net.proofs.Views.{kinds-is}

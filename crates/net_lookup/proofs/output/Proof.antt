@@ -1,4 +1,4 @@
--- `look::output` meets its contract: the output place of a kind, out of the look-up word. Assumes nothing.
+-- `output` meets its contract: the output place of a kind, out of the look-up word. Assumes nothing.
 use borrow.Author.Needs.{needs}
 use Rattle.net.proofs.HeldLaws.{unpacked}
 use Rattle.net_lookup.proofs.output.Statement.{statement}

@@ -1,4 +1,4 @@
--- `look::places` meets its contract: how many places, as the words' front says. Assumes nothing.
+-- `places` meets its contract: how many places, as the words' front says. Assumes nothing.
 use mathlib.Core.Path.{sym, _∙_}
 use borrow.Author.Needs.{needs}
 use Rattle.net.proofs.Views.{places-is}

@@ -1,4 +1,4 @@
--- `look::sink` meets its contract: the sink of a kind, by its word. Assumes nothing.
+-- `sink` meets its contract: the sink of a kind, by its word. Assumes nothing.
 use mathlib.Core.Path.{sym, _∙_}
 use native.Mathlib.Omega.{arith}
 use borrow.Author.Needs.{needs}

@@ -1,4 +1,4 @@
--- `look::source` meets its contract: the source of a kind, by its word. Assumes nothing.
+-- `source` meets its contract: the source of a kind, by its word. Assumes nothing.
 use mathlib.Core.Path.{sym, _∙_}
 use native.Mathlib.Omega.{arith}
 use borrow.Author.Needs.{needs}

@@ -1,6 +1,6 @@
--- `look::takes_kind` meets its contract: the look-up word is 0 just where the activity takes none of the kind.
+-- `takes_kind` meets its contract: the look-up word is 0 just where the activity takes none of the kind.
 -- Assumes nothing.
-use Prim.Native.Nat.{ℕ, _+_, _*_}
+use Prim.Native.Nat.{ℕ}
 use mathlib.Core.Bool.{Bool, true, false, not}
 use mathlib.Core.Path.{_≡_, refl, ap, _∙_}
 use native.Mathlib.Omega.{arith}

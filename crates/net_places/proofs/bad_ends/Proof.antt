@@ -4,12 +4,12 @@ use mathlib.Core.List.{List}
 use mathlib.Core.Path.{_≡_, sym, _∙_}
 use native.Mathlib.Omega.{arith}
 use lib.ListN.{getD, drop}
+use borrow.Author.Needs.{needs}
 use Rattle.words.specs.Lists.{any, anyTo, upto}
+use Rattle.words.proofs.Scan.{anyTo-turn, anyTo-found, anyTo-end}
 use Rattle.net.specs.Table.{badEnds}
 use Rattle.net.specs.Held.{netIn}
-use Rattle.net.proofs.Scan.{anyTo-turn, anyTo-found, anyTo-end}
 use Rattle.net.proofs.Views.{kinds-is, source-at, sink-at}
-use borrow.Author.Needs.{needs}
 use Rattle.net_places.proofs.bad_ends.Statement.{statement}
 use Rattle.net_places.proofs.bad_ends.Tie as tie
 

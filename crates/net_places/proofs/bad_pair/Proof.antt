@@ -7,12 +7,12 @@ use native.Mathlib.Omega.{arith}
 use lib.ListN.{getD}
 use lib.Dec.{eqb}
 use borrow.Author.Tests.{le-leb, lt-leb, eq-eqb, ne-eqb}
+use borrow.Author.Needs.{needs}
 use Rattle.words.specs.Lists.{either}
+use Rattle.words.proofs.Scan.{either-one}
 use Rattle.net.specs.Table.{badEnds}
 use Rattle.net.specs.Held.{netIn, Sized}
-use Rattle.net.proofs.Scan.{either-one}
 use Rattle.net.proofs.Views.{places-is, kind-at}
-use borrow.Author.Needs.{needs}
 use Rattle.net_places.proofs.bad_pair.Statement.{statement}
 use Rattle.net_places.proofs.bad_pair.Tie as tie
 

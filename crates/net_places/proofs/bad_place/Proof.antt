@@ -6,11 +6,11 @@ use native.Mathlib.Omega.{arith}
 use lib.ListN.{getD, drop}
 use lib.Dec.{leb}
 use borrow.Author.Tests.{le-leb, lt-leb}
-use Rattle.words.specs.Lists.{any}
-use Rattle.net.specs.Held.{netIn, placesIn}
-use Rattle.net.proofs.Scan.{any-turn, any-found, any-end}
-use Rattle.net.proofs.Views.{kinds-is, places-length, place-at}
 use borrow.Author.Needs.{needs}
+use Rattle.words.specs.Lists.{any}
+use Rattle.words.proofs.Scan.{any-turn, any-found, any-end}
+use Rattle.net.specs.Held.{netIn, placesIn}
+use Rattle.net.proofs.Views.{kinds-is, places-length, place-at}
 use Rattle.net_places.proofs.bad_place.Statement.{statement}
 use Rattle.net_places.proofs.bad_place.Tie as tie
 

@@ -1,28 +1,33 @@
--- The lines up to byte `at` are read. Assumes nothing.
+-- The bytes up to `i` are read. Assumes nothing.
 use Prim.Native.Nat.{_-_}
-use native.Mathlib.Omega.{arith}
 use lib.ListN.{length}
 use borrow.Author.Needs.{needs}
 use Rattle.net_test.proofs.lines.Statement.{statement}
 use Rattle.net_test.proofs.lines.Tie as tie
 
 abbrev Inv-loop : tie.InvT-loop
-Inv-loop s m₀ at₀ m at = Unit
+Inv-loop s b₀ l₀ i₀ b l i = Unit
 
 abbrev μ-loop : tie.MeasureT-loop
-μ-loop s m₀ at₀ m at = length s - at
+μ-loop s b₀ l₀ i₀ b l i = length s - i
+
+at-requires : tie.Need-at-requires Inv-loop μ-loop
+at-requires c κs = search needs
 
 loop-holds : tie.Need-loop-holds Inv-loop μ-loop
 loop-holds c = search needs
 
-line-requires : tie.Need-line-requires Inv-loop μ-loop
-line-requires c κs = search needs
+shared-slice-read-step : tie.Need-shared-slice-read-step Inv-loop μ-loop
+shared-slice-read-step c = search needs
 
-after-requires : tie.Need-after-requires Inv-loop μ-loop
-after-requires c κs = search needs
+step-requires : tie.Need-step-requires Inv-loop μ-loop
+step-requires c κs = search needs
+
+add-i : tie.Need-add-i Inv-loop μ-loop
+add-i c = search needs
 
 loop-less : tie.Need-loop-less Inv-loop μ-loop
-loop-less c = omega (arith, c .after .ensures .1 (omega arith))
+loop-less c = search needs
 
 loop-again : tie.Need-loop-again Inv-loop μ-loop
 loop-again c = search needs
@@ -33,4 +38,14 @@ returns c = search needs
 pub lines-spec : {M : Type 1} → statement M
 lines-spec =
     tie.close
-    (tie.spec Inv-loop μ-loop loop-holds line-requires after-requires loop-less loop-again returns)
+    (tie.spec
+    Inv-loop
+    μ-loop
+    at-requires
+    loop-holds
+    shared-slice-read-step
+    step-requires
+    add-i
+    loop-less
+    loop-again
+    returns)

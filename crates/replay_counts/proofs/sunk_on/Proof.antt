@@ -8,7 +8,7 @@ use lib.Dec.{eqb}
 use lib.ListN.{length, drop}
 use Rattle.words.specs.Lists.{one, total}
 use Rattle.net.specs.Held.{netIn}
-use Rattle.net.proofs.Scan.{total-turn, total-end}
+use Rattle.words.proofs.Scan.{total-turn, total-end}
 use Rattle.replay.specs.State.{sunkOn}
 use Rattle.replay.specs.Calls.{stateAt}
 use Rattle.replay.proofs.Accepted.{closers-kinds}

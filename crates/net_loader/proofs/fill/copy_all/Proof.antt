@@ -5,7 +5,7 @@ use mathlib.Core.Path.{_≡_, refl, sym, _∙_}
 use lib.ListN.{drop}
 use lib.Seq.{sets}
 use borrow.Author.Needs.{needs}
-use Rattle.net.proofs.Stores.{store-more, store-end}
+use Rattle.words.proofs.Stores.{store-more, store-end}
 use Rattle.net_loader.proofs.fill.copy_all.Statement.{statement}
 use Rattle.net_loader.proofs.fill.copy_all.Tie as tie
 use Rattle.net.specs.Limits.{netWords}

@@ -8,7 +8,8 @@ use lib.Seq.{sets, getD-take, getD-drop}
 use borrow.Author.Needs.{needs}
 use Rattle.words.specs.Words.{wordsOf}
 use Rattle.words.proofs.Words.{length-words}
-use Rattle.net.proofs.Stores.{store-more, store-end, left-at, cut-short}
+use Rattle.words.proofs.Stores.{store-more, store-end}
+use Rattle.words.proofs.Parts.{cut-length, cut-short}
 use Rattle.net_loader.proofs.fill.copy_words.Statement.{statement}
 use Rattle.net_loader.proofs.fill.copy_words.Tie as tie
 
@@ -49,7 +50,7 @@ loop-again c =
     let a = c .before .before .before .before .args in (
       omega arith,
       rw (← add-assoc, c .get-word .ensures, ← getD-drop (a .from) (wordsOf (a .s .now)) (l .i) 0, ← getD-take (a .n) (drop (a .from) (wordsOf (a .s .now))) (l .i) 0 (c .before .loop-test .taken))
-          (store-more (l .w) _ (a .base + l .i) (l .i) (left-at (wordsOf (a .s .now)) (a .from) (a .n) (l .i) (omega arith) (c .before .loop-test .taken)) ∙ l .inv .1),
+          (store-more (l .w) _ (a .base + l .i) (l .i) (omega (arith, cut-length (wordsOf (a .s .now)) (a .from) (a .n) (omega arith), c .before .loop-test .taken)) ∙ l .inv .1),
     )
 
 returns : tie.Need-returns Inv-loop μ-loop

@@ -5,9 +5,9 @@ use mathlib.Core.Path.{_≡_, refl, sym, _∙_}
 use lib.ListN.{getD, take, drop}
 use borrow.Author.Needs.{needs}
 use Rattle.words.specs.Lists.{pairUp, parts, total}
+use Rattle.words.proofs.Scan.{total-turn}
 use Rattle.net.specs.Held.{netIn, countsIn, arcsIn, indexRows}
 use Rattle.net_loader.proofs.Indexed.{rows-more, rows-end, Same, same-start, same-row, same-arcs, same-net, same-ruled}
-use Rattle.net.proofs.Search.{left-turn}
 use Rattle.net.proofs.Views.{counts-length, count-at}
 use Rattle.net_loader.proofs.index.index_arcs.Statement.{statement}
 use Rattle.net_loader.proofs.index.index_arcs.Tie as tie
@@ -38,7 +38,7 @@ size-is c =
     c .wide2 .ensures ∙ c .before .before .before .loop .inv .3 .word _ (omega (arith, h, s .pre .sized .acts)) ∙ sym (count-at _ (s .pre .sized) _ h)
 
 left-is : (c : tie.After-wide2 Inv-loop μ-loop) → total (λ (n : ℕ). n) (drop (c .before .before .before .loop .a) (countsIn (c .before .before .before .before .before .before .args .t .now))) ≡ c .wide2 .result + total (λ (n : ℕ). n) (drop (c .before .before .before .loop .a + 1) (countsIn (c .before .before .before .before .before .before .args .t .now)))
-left-is c = rw (size-is c) (left-turn (countsIn (c .before .before .before .before .before .before .args .t .now)) (c .before .before .before .loop .a) (omega (arith, counts-length _ (c .before .before .before .before .before .before .pre .sized), act-in (c .before .before))))
+left-is c = rw (size-is c) (sym (total-turn (λ (n : ℕ). n) (countsIn (c .before .before .before .before .before .before .args .t .now)) 0 (c .before .before .before .loop .a) (omega (arith, counts-length _ (c .before .before .before .before .before .before .pre .sized), act-in (c .before .before)))))
 
 loop-holds : tie.Need-loop-holds Inv-loop μ-loop
 loop-holds c = (omega arith, omega (arith, c .before .before .pre .sum), refl, same-start _)

@@ -5,13 +5,13 @@ use mathlib.Core.Path.{_≡_, refl, sym, ap, _∙_}
 use lib.ListN.{getD, take, drop}
 use lib.Seq.{getD-take, getD-drop}
 use borrow.Author.Needs.{needs}
-use Rattle.net.proofs.Views.{kind-at, arcs-length, arc-at}
 use Rattle.words.specs.Lists.{pairUp}
+use Rattle.words.proofs.Parts.{cut-length, cut-short}
+use Rattle.net.proofs.Views.{kind-at, arcs-length, arc-at}
 use Rattle.net.specs.Net.{Net}
 use Rattle.net.specs.Held.{netIn, arcsIn, indexRow}
 use Rattle.net.specs.Ruled.{Ruled}
 use Rattle.net_loader.proofs.Indexed.{row-more, row-end, Same, same-start, same-set, same-arcs, same-net, same-ruled}
-use Rattle.net.proofs.Stores.{left-at, cut-short}
 use Rattle.net_routes.proofs.RuledWords.{kind-in, arc-inp, arc-out}
 use Rattle.net_loader.proofs.index.index_row.Statement.{statement}
 use Rattle.net_loader.proofs.index.index_row.Tie as tie
@@ -139,7 +139,7 @@ loop-again c =
       omega arith,
       rw k
           (row-more _ (a .base) (take (a .n) (drop (a .from) (pairUp (arcsIn (a .t .now))))) (l .i) (l .t) _
-          (left-at (pairUp (arcsIn (a .t .now))) (a .from) (a .n) (l .i) (omega (arith, s .pre .1 .0, arcs-length (a .t .now) (s .pre .0 .sized) (s .pre .0 .arcs-few))) lt)
+          (omega (arith, cut-length (pairUp (arcsIn (a .t .now))) (a .from) (a .n) (omega (arith, s .pre .1 .0, arcs-length (a .t .now) (s .pre .0 .sized) (s .pre .0 .arcs-few))), lt))
           (getD-take (a .n) (drop (a .from) (pairUp (arcsIn (a .t .now)))) (l .i) (0, 0) lt ∙ getD-drop (a .from) (pairUp (arcsIn (a .t .now))) (l .i) (0, 0)
           ∙ rw (← same-arcs _ _ S (s .pre .0)) (arc-at (l .t) (R .sized) (R .arcs-few) (a .from + l .i) (arc-there d)))
           ∙ l .inv .1),

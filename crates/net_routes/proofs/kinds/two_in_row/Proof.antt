@@ -7,10 +7,10 @@ use native.Mathlib.Omega.{arith}
 use lib.ListN.{length, getD, set, take, drop, length-set}
 use borrow.Author.Needs.{needs}
 use Rattle.words.specs.Lists.{twice, pairUp}
+use Rattle.words.proofs.Search.{clashes, clash-turn, clash-found, clash-end, clash-twice}
 use Rattle.net.specs.Net.{kindsOf}
 use Rattle.net.specs.Held.{netIn, arcsIn}
 use Rattle.net_routes.proofs.RuledWords.{kind-in, arc-inp, row-length, row-at, row-in}
-use Rattle.net.proofs.Search.{clashes, clash-turn, clash-found, clash-end, clash-twice}
 use Rattle.net_routes.proofs.kinds.two_in_row.Statement.{statement}
 use Rattle.net_routes.proofs.kinds.two_in_row.Tie as tie
 

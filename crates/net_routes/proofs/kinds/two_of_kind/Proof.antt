@@ -7,10 +7,11 @@ use native.Mathlib.Omega.{arith}
 use lib.ListN.{length, getD, take, drop}
 use borrow.Author.Needs.{needs}
 use Rattle.words.specs.Lists.{any, twice, total, pairUp, parts}
+use Rattle.words.proofs.Search.{parts-turn, parts-found, parts-end}
+use Rattle.words.proofs.Scan.{total-turn}
 use Rattle.net.specs.Net.{Arc, kindsOf}
 use Rattle.net.specs.Held.{netIn, countsIn, arcsIn}
 use Rattle.net.proofs.Views.{counts-length, count-at}
-use Rattle.net.proofs.Search.{parts-turn, parts-found, parts-end, left-turn}
 use Rattle.net_routes.proofs.kinds.two_of_kind.Statement.{statement}
 use Rattle.net_routes.proofs.kinds.two_of_kind.Tie as tie
 
@@ -38,7 +39,7 @@ row-two : (c : tie.After-wide2 Inv-loop μ-loop) → let w = c .before .before .
 row-two c = rw (count-is c)
 
 row-fits : (c : tie.After-wide2 Inv-loop μ-loop) → c .before .before .before .loop .from + c .wide2 .result ≤ getD (c .before .before .before .before .before .before .args .w .now) 3 0
-row-fits c = omega (arith, c .before .before .before .loop .inv .1, count-is c, left-turn (countsIn (c .before .before .before .before .before .before .args .w .now)) (c .before .before .before .loop .a) (inside c))
+row-fits c = omega (arith, c .before .before .before .loop .inv .1, count-is c, total-turn (λ (n : ℕ). n) (countsIn (c .before .before .before .before .before .before .args .w .now)) 0 (c .before .before .before .loop .a) (inside c))
 
 element-copy-out-wide : tie.Need-element-copy-out-wide Inv-loop μ-loop
 element-copy-out-wide c = search needs
@@ -82,7 +83,7 @@ loop-again : tie.Need-loop-again Inv-loop μ-loop
 loop-again c =
     let p = c .before .before in let l = p .before .before .before .loop in let w = c .before .before .before .before .before .before .before .before .args .w .now in (
       omega arith,
-      omega (arith, l .inv .1, count-is p, left-turn (countsIn w) (l .a) (inside p)),
+      omega (arith, l .inv .1, count-is p, total-turn (λ (n : ℕ). n) (countsIn w) 0 (l .a) (inside p)),
       subst (λ (n : ℕ). any (two w) (parts (drop (l .a + 1) (countsIn w)) (drop (l .from + n) (pairUp (arcsIn w)))) ≡ any (two w) (parts (countsIn w) (pairUp (arcsIn w)))) (count-is p)
           (sym (parts-turn (two w) (countsIn w) (pairUp (arcsIn w)) (l .a) (l .from) (inside p) (row-two p ∙ sym (c .before .two-in-row .ensures) ∙ c .if1 .left)) ∙ l .inv .2),
     )

@@ -9,12 +9,12 @@ use lib.ListN.{getD, drop, replicate}
 use borrow.Author.Needs.{needs}
 use borrow.Author.Tests.{eq-eqb, ne-eqb}
 use Rattle.words.specs.Lists.{any, anyTo, upto, pairUp}
+use Rattle.words.proofs.Scan.{anyTo-turn, anyTo-found, anyTo-end}
 use Rattle.net.specs.Table.{passes, marked}
 use Rattle.net.specs.Held.{netIn, arcsIn}
 use Rattle.net.specs.Ruled.{sourceMarks}
 use Rattle.net.proofs.Views.{kinds-is}
 use Rattle.net_routes.proofs.RuledWords.{end-words, sink-marked}
-use Rattle.net.proofs.Scan.{anyTo-turn, anyTo-found, anyTo-end}
 use Rattle.net_routes.proofs.reach.unreached.Statement.{statement}
 use Rattle.net_routes.proofs.reach.unreached.Tie as tie
 

@@ -1,40 +1,41 @@
--- Where the answer is `Taken` the words are those that loading leaves. Assumes nothing.
+-- Where the number is 0 the words are those that loading leaves. Assumes nothing.
 use Prim.Native.Nat.{ℕ}
-use mathlib.Core.Path.{_≡_, sym, ap, _∙_}
+use mathlib.Core.Path.{_≡_, sym, _∙_}
 use mathlib.Core.List.{List}
-use Rattle.net.specs.Answer.{loadAnswerCode}
 use Rattle.net.specs.Table.{loadCode}
-use Rattle.net.specs.Held.{loadedWords, afterLoad}
+use Rattle.net.specs.Held.{tableWords, afterLoad}
 use borrow.Author.Needs.{needs}
 use Rattle.net_test.proofs.show.load.Statement.{statement}
 use Rattle.net_test.proofs.show.load.Tie as tie
 
-loaded : (b w : List ℕ) → loadCode b ≡ 0 → afterLoad b w ≡ loadedWords b w
+loaded : (b w : List ℕ) → loadCode b ≡ 0 → afterLoad b w ≡ tableWords b
 unfolding afterLoad
 loaded b w e = rw e
-
-fill-requires : tie.Need-fill-requires
-fill-requires c κs = search needs
 
 load-requires : tie.Need-load-requires
 load-requires c κs = search needs
 
-put-answer-requires : tie.Need-put-answer-requires
-put-answer-requires c κs = search needs
+code-requires : tie.Need-code-requires
+code-requires c κs = search needs
 
-enum-told : tie.Need-enum-told
-enum-told c = search needs
+cast-say : tie.Need-cast-say
+cast-say c = search needs
+
+say-requires : tie.Need-say-requires
+say-requires c κs = search needs
 
 put-net-requires : tie.Need-put-net-requires
 put-net-requires c κs =
     let l = c .before .before .before .before in
-    let s = l .before .before .before .before .before .args .s .now in
-    let w = l .before .before .fill .last .0 in
-    let z : loadCode s ≡ 0 = sym (l .load .ensures .0) ∙ ap loadAnswerCode (c .before .enum-told .given .1) in
-    record { table = s; before = w; size = l .before .before .fill .ensures; taken = z; words = l .load .ensures .1 ∙ loaded s w z }
+    let s = l .before .before .before .args .s .now in
+    let z : loadCode s ≡ 0 = sym (c .before .before .before .code .ensures ∙ l .load .ensures .0) ∙ c .before .if1 .taken in
+    record { table = s; taken = z; words = l .load .ensures .1 ∙ loaded s _ z }
 
-put-words-requires : tie.Need-put-words-requires
-put-words-requires c κs = search needs
+unchanged-requires : tie.Need-unchanged-requires
+unchanged-requires c κs = search needs
+
+say-requires-2 : tie.Need-say-requires-2
+say-requires-2 c κs = search needs
 
 returns : tie.Need-returns
 returns c = search needs
@@ -46,11 +47,12 @@ pub load-spec : {M : Type 1} → statement M
 load-spec =
     tie.close
     (tie.spec
-    fill-requires
     load-requires
-    put-answer-requires
-    enum-told
+    code-requires
+    cast-say
+    say-requires
     put-net-requires
-    put-words-requires
+    unchanged-requires
+    say-requires-2
     returns
     returns-2)

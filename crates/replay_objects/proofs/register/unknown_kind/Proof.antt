@@ -9,7 +9,7 @@ use borrow.Author.Tests.{le-leb, lt-leb}
 use Rattle.words.specs.Lists.{any}
 use Rattle.net.specs.Held.{netIn}
 use Rattle.replay.specs.Register.{kindsIn}
-use Rattle.net.proofs.Scan.{any-turn, any-found, any-end}
+use Rattle.words.proofs.Scan.{any-turn, any-found, any-end}
 use Rattle.replay_objects.proofs.register.unknown_kind.Statement.{statement}
 use Rattle.replay_objects.proofs.register.unknown_kind.Tie as tie
 

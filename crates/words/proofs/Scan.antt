@@ -1,5 +1,5 @@
 -- A loop along a list, and one along the numbers below n: what is left from index i. Assumes nothing.
-use Prim.Native.Nat.{ℕ, zero, suc, _+_, _≤_, _<_}
+use Prim.Native.Nat.{ℕ, _+_, _≤_, _<_}
 use mathlib.Core.Bool.{Bool, true, false}
 use mathlib.Core.Path.{_≡_, refl}
 use mathlib.Core.List.{List, [], _∷_}
@@ -7,8 +7,8 @@ use native.Mathlib.Numerals.{add-one}
 use native.Mathlib.Omega.{arith}
 use lib.ListN.{length, drop, getD, drop-of-length-le}
 use lib.Seq.{drop-cons}
 use Rattle.words.specs.Lists.{any, either, total, upto}
-use Rattle.words.proofs.Lists.{length-upto}
+use Rattle.words.proofs.Lists.{length-upto, upto-at}
 
 -- a search: the element fails the test, passes it, is past the end
 module _ {A : Type 0} (f : A → Bool) (xs : List A) (d : A) (i : ℕ) where
@@ -33,11 +33,6 @@ module _ {A : Type 0} (f : A → ℕ) (xs : List A) (d : A) (i : ℕ) where
 
   pub total-end : length xs ≤ i → total f (drop i xs) ≡ 0
   total-end le = rw (drop-of-length-le xs le)
-
-pub upto-at : (n j i : ℕ) → i < n → getD (upto n j) i 0 ≡ j + i
-upto-at zero j i h = absurd (omega arith)
-upto-at (suc n) j zero h = omega arith
-upto-at (suc n) j (suc i) h = omega (arith, upto-at n (suc j) i (omega arith))
 
 -- a search of the numbers below n
 module _ (f : ℕ → Bool) (n i : ℕ) where

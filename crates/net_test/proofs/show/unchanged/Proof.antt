@@ -1,24 +1,24 @@
--- The bytes up to `i` are passed. Assumes nothing.
+-- The words up to `i` are as they were. Assumes nothing.
 use Prim.Native.Nat.{_≤_, _-_}
-use lib.ListN.{length}
+use Rattle.net.specs.Limits.{netWords}
 use borrow.Author.Needs.{needs}
-use Rattle.net_test.proofs.read.after.Statement.{statement}
-use Rattle.net_test.proofs.read.after.Tie as tie
+use Rattle.net_test.proofs.show.unchanged.Statement.{statement}
+use Rattle.net_test.proofs.show.unchanged.Tie as tie
 
 abbrev Inv-loop : tie.InvT-loop
-Inv-loop s at b i₀ i = at ≤ i
+Inv-loop t i₀ i = i ≤ netWords
 
 abbrev μ-loop : tie.MeasureT-loop
-μ-loop s at b i₀ i = length s - i
+μ-loop t i₀ i = netWords - i
 
 loop-holds : tie.Need-loop-holds Inv-loop μ-loop
 loop-holds c = search needs
 
-shared-slice-read-if1 : tie.Need-shared-slice-read-if1 Inv-loop μ-loop
-shared-slice-read-if1 c = search needs
+mul-if1 : tie.Need-mul-if1 Inv-loop μ-loop
+mul-if1 c = search needs
 
-add-result : tie.Need-add-result Inv-loop μ-loop
-add-result c = search needs
+element-copy-out-if1 : tie.Need-element-copy-out-if1 Inv-loop μ-loop
+element-copy-out-if1 c = search needs
 
 returns : tie.Need-returns Inv-loop μ-loop
 returns c = search needs
@@ -35,15 +35,15 @@ loop-again c = search needs
 returns-2 : tie.Need-returns-2 Inv-loop μ-loop
 returns-2 c = search needs
 
-pub after-spec : {M : Type 1} → statement M
-after-spec =
+pub unchanged-spec : {M : Type 1} → statement M
+unchanged-spec =
     tie.close
     (tie.spec
     Inv-loop
     μ-loop
     loop-holds
-    shared-slice-read-if1
-    add-result
+    mul-if1
+    element-copy-out-if1
     returns
     add-i
     loop-less

@@ -3,8 +3,7 @@ use Prim.Native.Nat.{ℕ, _+_, _≤_, _<_}
 use native.Mathlib.Numerals.{add-one}
 use mathlib.Core.Path.{_≡_}
 use mathlib.Core.List.{List}
-use native.Mathlib.Omega.{arith}
-use lib.ListN.{length, getD, set, take, drop, length-take, length-drop, drop-of-length-le}
+use lib.ListN.{length, getD, set, drop, drop-of-length-le}
 use lib.Seq.{sets, drop-cons}
 
 module _ (w vs : List ℕ) (at i : ℕ) where
@@ -13,11 +12,3 @@ module _ (w vs : List ℕ) (at i : ℕ) where
 
   pub store-end : length vs ≤ i → sets w at (drop i vs) ≡ w
   store-end h = rw (drop-of-length-le vs h)
-
--- n elements from element `from` on
-module _ {A : Type 0} (ws : List A) (from n i : ℕ) where
-  pub left-at : from + n ≤ length ws → i < n → i < length (take n (drop from ws))
-  left-at h l = simp (length-take, length-drop) (omega arith)
-
-  pub cut-short : n ≤ i → length (take n (drop from ws)) ≤ i
-  cut-short h = simp length-take (omega arith)

@@ -1,5 +1,5 @@
--- Searches, by what is left of them: for a number that stands twice, along the parts of a list, below a number. Assumes nothing.
-use Prim.Native.Nat.{ℕ, zero, suc, _+_, _≤_, _<_}
+-- Searches, by what is left of them: for a number that stands twice, and along the parts of a list. Assumes nothing.
+use Prim.Native.Nat.{ℕ, _+_, _≤_, _<_}
 use mathlib.Core.Bool.{Bool, true, false}
 use mathlib.Core.Path.{_≡_, refl, ap, sym, _∙_}
 use mathlib.Core.List.{List, [], _∷_}
@@ -10,8 +10,8 @@ use lib.ListN.{length, getD, set, take, drop, replicate, length-set, length-repl
 use lib.Seq.{drop-cons, drop-drop, getD-set-same, getD-set-other}
 use lib.Dec.{eqb}
 use borrow.Author.Tests.{eq-eqb, ne-eqb}
-use Rattle.words.specs.Lists.{pick, any, All, has, twice, total, parts}
-use Rattle.words.proofs.Lists.{All-to, any-false, All-of}
+use Rattle.words.specs.Lists.{pick, any, All, has, twice, parts}
+use Rattle.words.proofs.Lists.{All-to, any-false, All-of, same-at}
 
 -- a number that is seen, or stands twice in the list
 pub clashes : List Bool → List ℕ → Bool
@@ -65,17 +65,12 @@ clash-is s (k ∷ ks) a =
     rw (clash-is (set s k true) ks (All-to (λ (j : ℕ). j < length s) (λ (j : ℕ). j < length (set s k true)) (λ j h. omega (arith, length-set s k true)) ks (a .1)), seen-set s k (a .0) ks)
     (or-turn (getD s k false) (has k ks) (any (λ (j : ℕ). getD s j false) ks) (twice ks))
 
-none-seen : (n j : ℕ) → getD (replicate n false) j false ≡ false
-none-seen zero j = refl
-none-seen (suc n) zero = refl
-none-seen (suc n) (suc j) = none-seen n j
-
 -- with nothing seen, what clashes stands twice
 pub clash-twice : (n : ℕ) (ks : List ℕ) → All (λ (k : ℕ). k < n) ks → clashes (replicate n false) ks ≡ twice ks
 unfolding seen
 clash-twice n ks a =
     clash-is (replicate n false) ks (All-to (λ (j : ℕ). j < n) (λ (j : ℕ). j < length (replicate n false)) (λ j h. omega (arith, length-replicate n false)) ks a)
-    ∙ ap (λ (b : Bool). pick b true (twice ks)) (any-false (λ (j : ℕ). getD (replicate n false) j false) ks (All-of (λ (j : ℕ). getD (replicate n false) j false ≡ false) 0 ks (λ i h. none-seen n (getD ks i 0))))
+    ∙ ap (λ (b : Bool). pick b true (twice ks)) (any-false (λ (j : ℕ). getD (replicate n false) j false) ks (All-of (λ (j : ℕ). getD (replicate n false) j false ≡ false) 0 ks (λ i h. same-at n (getD ks i 0) false)))
 
 -- the parts of a list from part a on, which begins at `from`
 module _ {A : Type 0} (f : List A → Bool) (cs : List ℕ) (xs : List A) (a from : ℕ) where
@@ -87,6 +82,3 @@ module _ {A : Type 0} (f : List A → Bool) (cs : List ℕ) (xs : List A) (a fro
 
   pub parts-end : length cs ≤ a → any f (parts (drop a cs) (drop from xs)) ≡ false
   parts-end h = rw (drop-of-length-le cs h)
-
-pub left-turn : (cs : List ℕ) (a : ℕ) → a < length cs → total (λ (n : ℕ). n) (drop a cs) ≡ getD cs a 0 + total (λ (n : ℕ). n) (drop (a + 1) cs)
-left-turn cs a h = rw (add-one, drop-cons cs a 0 h)

@@ -1,12 +1,41 @@
--- A list cut into parts: their lengths, and what stands in them. Assumes nothing.
-use Prim.Native.Nat.{ℕ, zero, suc, _≤_, _<_}
+-- A list cut: a part of it, all parts of given lengths, pairs; their lengths, and what stands in them. Assumes nothing.
+use Prim.Native.Nat.{ℕ, zero, suc, _+_, _*_, _/_, _≤_, _<_}
 use mathlib.Core.Logic.{_⊎_, inl, inr}
-use mathlib.Core.Path.{_≡_, refl, ap}
+use mathlib.Core.Path.{_≡_, refl, ap, subst₂, _∙_}
 use mathlib.Core.List.{List, [], _∷_}
 use native.Mathlib.Omega.{arith}
 use lib.ListN.{length, getD, take, drop, length-take, length-drop}
-use Rattle.words.specs.Lists.{All, In, here, there, total, parts}
+use lib.Seq.{getD-take, getD-drop}
+use Rattle.words.specs.Lists.{All, In, here, there, total, pairUp, parts}
 use Rattle.words.proofs.Lists.{All-take, All-drop}
+
+-- n elements from element `from` on
+module _ {A : Type 0} (xs : List A) (from n : ℕ) where
+  pub cut-length : from + n ≤ length xs → length (take n (drop from xs)) ≡ n
+  cut-length h = simp (length-take, length-drop) (omega arith)
+
+  pub cut-at : (i : ℕ) (d : A) → i < n → getD (take n (drop from xs)) i d ≡ getD xs (from + i) d
+  cut-at i d h = getD-take n (drop from xs) i d h ∙ getD-drop from xs i d
+
+  pub cut-short : (i : ℕ) → n ≤ i → length (take n (drop from xs)) ≤ i
+  cut-short i h = simp length-take (omega arith)
+
+-- pairs of a list of numbers
+pub length-pairs : (xs : List ℕ) → length (pairUp xs) ≡ length xs / 2
+length-pairs [] = refl
+length-pairs (x ∷ []) = refl
+length-pairs (x ∷ y ∷ r) = omega (arith, length-pairs r)
+
+pub pair-at : (xs : List ℕ) (j : ℕ) → j < length (pairUp xs) → getD (pairUp xs) j (0, 0) ≡ (getD xs (2 * j) 0, getD xs (2 * j + 1) 0)
+pair-at [] j h = absurd (omega arith)
+pair-at (x ∷ []) j h = absurd (omega arith)
+pair-at (x ∷ y ∷ r) zero h = refl
+pair-at (x ∷ y ∷ r) (suc j) h =
+    subst₂ (λ (a b : ℕ). getD (pairUp r) j (0, 0) ≡ (getD (x ∷ y ∷ r) a 0, getD (x ∷ y ∷ r) b 0))
+    (twice-suc (2 * j) (2 * suc j) (omega arith)) (twice-suc (2 * j + 1) (2 * suc j + 1) (omega arith)) (pair-at r j (omega arith))
+  where
+    twice-suc : (n m : ℕ) → suc (suc n) ≡ m → suc (suc n) ≡ m
+    twice-suc n m e = e
 
 -- the sum of the lengths
 abbrev pub sum : List ℕ → ℕ
@@ -44,9 +73,9 @@ module _ {A : Type 0} where
       go (inr j) = inr j
 
   -- an element of a part is an element of the list
-  pub part-in : (ns : List ℕ) (xs : List A) (a : ℕ) (x : A) → In x (getD (parts ns xs) a []) → In x xs
-  part-in (n ∷ ns) xs zero x i = in-take n xs x i
-  part-in (n ∷ ns) xs (suc a) x i = in-drop n xs x (part-in ns (drop n xs) a x i)
+  pub in-whole : (ns : List ℕ) (xs : List A) (a : ℕ) (x : A) → In x (getD (parts ns xs) a []) → In x xs
+  in-whole (n ∷ ns) xs zero x i = in-take n xs x i
+  in-whole (n ∷ ns) xs (suc a) x i = in-drop n xs x (in-whole ns (drop n xs) a x i)
 
   -- an element of a list that is cut up whole is in some part
   pub record Part (ns : List ℕ) (xs : List A) (x : A) : Type 0 where
