@@ -17,7 +17,7 @@ use Rattle.words.proofs.Refusals.{first-then, first-stays}
 use Rattle.net.specs.Net.{Net}
 use Rattle.net.specs.Table.{loadCode}
 use Rattle.net.specs.Held.{loadedWords, netIn}
-use Rattle.net.proofs.HeldLaws.{loaded-held, held-net}
+use Rattle.net.proofs.HeldLaws.{loaded-tabled}
 use Rattle.replay.specs.Plain.{registerCode}
 use Rattle.replay.specs.Register.{rowSize, kindsIn}
 use Rattle.replay.specs.State.{stateFrom}
@@ -29,7 +29,6 @@ use Rattle.checkpoint_judge.specs.Judge.{closedBy, judgeCode, judgeSecond}
 use Rattle.words.proofs.Words.{words-take, word-drop}
 use Rattle.checkpoint.proofs.Spans.{ends-at}
 use Rattle.checkpoint_judge.proofs.Verdicts.{judge-not-43}
-use Rattle.net.specs.Limits.{netWords}
 use Rattle.replay.specs.Limits.{maxRecord}
 
 -- a list of tests without its first
@@ -167,9 +166,9 @@ module _ (b : List ℕ) (F : Framed b) where
         last false t x y h = refl
 
   -- what loading the record's table leaves
-  pub opened : (w : List ℕ) → length w ≡ netWords → loadCode (tableIn b) ≡ 0 → Opened b (loadedWords (tableIn b) w)
+  pub opened : loadCode (tableIn b) ≡ 0 → Opened b (loadedWords (tableIn b))
   unfolding netAt
-  opened w e z = record { framed = F; loads = z; held = loaded-held (tableIn b) w e z; net = held-net (tableIn b) w e z }
+  opened z = let t = loaded-tabled (tableIn b) z (loadedWords (tableIn b)) refl in record { framed = F; loads = z; held = t .held; net = t .net }
 
   table-code : (loadCode (tableIn b) ≡ 0 → ⊥) → 43 ≡ restoreCode b
   unfolding restoreCode

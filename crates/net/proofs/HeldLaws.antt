@@ -11,7 +11,7 @@ use Rattle.words.proofs.Lists.{All-of, All-to, is-eq}
 use Rattle.words.proofs.Parts.{sum, length-parts, part-length}
 use Rattle.net.specs.Net.{Net, Arc, Loaded, GoodArc, takes, inputOf, outputOf, kindsOf}
 use Rattle.net.specs.Table.{netOf, loadCode}
-use Rattle.net.specs.Held.{countsIn, arcsIn, netIn, pack, bodyWords, tableWords, loadedWords, Held, Tabled, Sized}
+use Rattle.net.specs.Held.{countsIn, arcsIn, netIn, pack, bodyWords, loadedWords, Held, Tabled, Sized}
 use Rattle.net.proofs.Views.{counts-length, count-at}
 use Rattle.net.proofs.Promise.{passed, taken-shape, promise}
 use Rattle.net.proofs.IndexLaws.{rows-at, arc-has}
@@ -33,32 +33,32 @@ module _ (b : List ℕ) (taken : loadCode b ≡ 0) where
   arcs : FitArcs (bodyOf b 3)
   arcs = fit-arcs b (taken-shape b taken) (passed b taken .ends .1 .1 .0) all-arcs
 
-  holds : Holds (bodyOf b 0) (bodyOf b 1) (bodyOf b 2) (bodyOf b 3) (tableWords b)
-  unfolding tableWords
+  holds : Holds (bodyOf b 0) (bodyOf b 1) (bodyOf b 2) (bodyOf b 3) (loadedWords b)
+  unfolding loadedWords
   holds =
       indexed (bodyOf b 0) (bodyOf b 1) (bodyOf b 2) (bodyOf b 3) front arcs (λ (p : ℕ). getD (bodyOf b 1) p 0) (rowsOf b) (bodyWords (bodyOf b 0) (bodyOf b 1) (bodyOf b 2) (bodyOf b 3))
       (body-words (bodyOf b 0) (bodyOf b 1) (bodyOf b 2) (bodyOf b 3) front arcs)
 
   -- what loading leaves holds the table's net
-  pub tabled : (v : List ℕ) → v ≡ tableWords b → Tabled v b
+  pub loaded-tabled : (v : List ℕ) → v ≡ loadedWords b → Tabled v b
   unfolding netOf
-  tabled v e =
+  loaded-tabled v e =
       rw e (record {
         held = record { table = b; taken = taken; words = refl };
-        net = net-in (bodyOf b 0) (bodyOf b 1) (bodyOf b 2) (bodyOf b 3) front arcs (tableWords b) holds;
+        net = net-in (bodyOf b 0) (bodyOf b 1) (bodyOf b 2) (bodyOf b 3) front arcs (loadedWords b) holds;
         taken = taken;
       })
 
-  loaded-sized : Sized (tableWords b)
-  loaded-sized = sized (bodyOf b 0) (bodyOf b 1) (bodyOf b 2) front (length (bodyOf b 3) / 2) (tableWords b) (holds .front)
+  loaded-sized : Sized (loadedWords b)
+  loaded-sized = sized (bodyOf b 0) (bodyOf b 1) (bodyOf b 2) front (length (bodyOf b 3) / 2) (loadedWords b) (holds .front)
 
-  loaded-arcs : (a : ℕ) → a < netIn (tableWords b) .acts → length (netIn (tableWords b) .arcs a) ≡ getD (tableWords b) (84 + a) 0
+  loaded-arcs : (a : ℕ) → a < netIn (loadedWords b) .acts → length (netIn (loadedWords b) .arcs a) ≡ getD (loadedWords b) (84 + a) 0
   unfolding netIn
   loaded-arcs a h =
-      let c : countsIn (tableWords b) ≡ bodyOf b 2 = counts-in (bodyOf b 0) (bodyOf b 1) (bodyOf b 2) front (length (bodyOf b 3) / 2) (tableWords b) (holds .front) in
-      let x : arcsIn (tableWords b) ≡ bodyOf b 3 = arcs-in (bodyOf b 0) (bodyOf b 1) (bodyOf b 2) (bodyOf b 3) front arcs (tableWords b) holds in
-      part-length (countsIn (tableWords b)) (pairUp (arcsIn (tableWords b))) (rw (c, x) (omega (arith, all-arcs))) a h
-      ∙ count-at (tableWords b) loaded-sized a (omega (arith, counts-length (tableWords b) loaded-sized))
+      let c : countsIn (loadedWords b) ≡ bodyOf b 2 = counts-in (bodyOf b 0) (bodyOf b 1) (bodyOf b 2) front (length (bodyOf b 3) / 2) (loadedWords b) (holds .front) in
+      let x : arcsIn (loadedWords b) ≡ bodyOf b 3 = arcs-in (bodyOf b 0) (bodyOf b 1) (bodyOf b 2) (bodyOf b 3) front arcs (loadedWords b) holds in
+      part-length (countsIn (loadedWords b)) (pairUp (arcsIn (loadedWords b))) (rw (c, x) (omega (arith, all-arcs))) a h
+      ∙ count-at (loadedWords b) loaded-sized a (omega (arith, counts-length (loadedWords b) loaded-sized))
 
   small : All (λ (r : List Arc). All (λ (x : Arc). getD (bodyOf b 1) (x .0) 0 < 8) r) (rowsOf b)
   unfolding netOf
@@ -75,8 +75,8 @@ module _ (b : List ℕ) (taken : loadCode b ≡ 0) where
       (λ i h. promise b taken .arc-once i (omega (arith, length-parts (bodyOf b 2) (pairUp (bodyOf b 3)))))
 
   loaded-index : (a k : ℕ) → a < netOf b .acts → k < netOf b .kinds
-      → getD (tableWords b) (1172 + 8 * a + k) 0 ≡ pick (takes (netOf b) a k) (pack (inputOf (netOf b) a k, outputOf (netOf b) a k)) 0
-  unfolding tableWords netOf
+      → getD (loadedWords b) (1172 + 8 * a + k) 0 ≡ pick (takes (netOf b) a k) (pack (inputOf (netOf b) a k, outputOf (netOf b) a k)) 0
+  unfolding loadedWords netOf
   loaded-index a k h g =
       let l : length (rowsOf b) ≡ length (bodyOf b 2) = length-parts (bodyOf b 2) (pairUp (bodyOf b 3)) in
       let B : List ℕ = bodyWords (bodyOf b 0) (bodyOf b 1) (bodyOf b 2) (bodyOf b 3) in
@@ -84,24 +84,10 @@ module _ (b : List ℕ) (taken : loadCode b ≡ 0) where
       rows-at (λ (p : ℕ). getD (bodyOf b 1) p 0) 1172 (rowsOf b) B small once
       (omega (arith, front .counts-few)) (no-words (bodyOf b 0) (bodyOf b 1) (bodyOf b 2) (bodyOf b 3) front arcs) a k (omega arith) (omega (arith, promise b taken .kinds-le))
 
--- the same, beside the words before
-module _ (b w : List ℕ) (size : length w ≡ netWords) (taken : loadCode b ≡ 0) where
-  pub held-net : netIn (loadedWords b w) ≡ netOf b
-  unfolding loadedWords
-  held-net = tabled b taken (tableWords b) refl .net
-
-  pub loaded-held : Held (loadedWords b w)
-  unfolding loadedWords
-  loaded-held = tabled b taken (tableWords b) refl .held
-
-  pub loaded-tabled : (v : List ℕ) → v ≡ loadedWords b w → Tabled v b
-  unfolding loadedWords
-  loaded-tabled v e = tabled b taken v e
-
 -- the same of any words that hold a loaded net
 module _ (w : List ℕ) (H : Held w) where
   table-net : netIn w ≡ netOf (H .table)
-  table-net = tabled (H .table) (H .taken) w (H .words) .net
+  table-net = loaded-tabled (H .table) (H .taken) w (H .words) .net
 
   pub held-loaded : Loaded (netIn w)
   held-loaded = subst Loaded (sym table-net) (promise (H .table) (H .taken))

@@ -52,14 +52,10 @@ unfoldable pub bodyWords : List ℕ → List ℕ → List ℕ → List ℕ → L
 bodyWords ends places counts arcs = sets (frontWords ends places counts (length arcs / 2)) 148 arcs
 
 -- what loading the bytes b leaves in lent words: it writes all of them
-unfoldable pub tableWords : List ℕ → List ℕ
-tableWords b =
+unfoldable pub loadedWords : List ℕ → List ℕ
+loadedWords b =
     indexRows (λ (p : ℕ). getD (bodyOf b 1) p 0) 1172 (parts (bodyOf b 2) (pairUp (bodyOf b 3)))
     (bodyWords (bodyOf b 0) (bodyOf b 1) (bodyOf b 2) (bodyOf b 3))
-
--- the same, beside the words before, which do not matter
-unfoldable pub loadedWords : List ℕ → List ℕ → List ℕ
-loadedWords b w = tableWords b
 
 -- the words w with the sizes and the first three bodies of the bytes b in front
 unfoldable pub frontOver : List ℕ → List ℕ → List ℕ
@@ -68,13 +64,13 @@ frontOver b w =
 
 -- the lent words after a call of loading: unchanged where the table is refused
 unfoldable pub afterLoad : List ℕ → List ℕ → List ℕ
-afterLoad b w = pick (eqb (loadCode b) 0) (tableWords b) w
+afterLoad b w = pick (eqb (loadCode b) 0) (loadedWords b) w
 
 -- the words are what loading some table leaves
 pub record Held (w : List ℕ) : Type 0 where
   pub table : List ℕ
   pub taken : loadCode table ≡ 0
-  pub words : w ≡ tableWords table
+  pub words : w ≡ loadedWords table
 
 -- the words hold the net of a table file that loads
 pub record Tabled (w table : List ℕ) : Type 0 where
@@ -82,7 +78,7 @@ pub record Tabled (w table : List ℕ) : Type 0 where
   pub net : netIn w ≡ netOf table
   pub taken : loadCode table ≡ 0
 
--- 1,684 words that hold no more kinds, places and activities than test 3 allows
+-- words that hold no more kinds, places and activities than test 3 allows
 pub record Sized (w : List ℕ) : Type 0 where
   pub size : length w ≡ netWords
   pub kinds : getD w 0 0 ≤ 8

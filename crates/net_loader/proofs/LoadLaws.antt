@@ -15,12 +15,12 @@ use Rattle.words.proofs.Refusals.{None, none-apply, first-then, first-stays, fi
 use Rattle.words.proofs.Sets.{sets-all}
 use Rattle.words.proofs.Parts.{length-pairs}
 use Rattle.net.specs.Table.{badArc, shapeTests, endTests, arcTests, loadTests, loadCode}
-use Rattle.net.specs.Held.{endsIn, placesIn, countsIn, arcsIn, netIn, frontWords, bodyWords, indexRows, frontOver, tableWords, afterLoad, Sized}
+use Rattle.net.specs.Held.{endsIn, placesIn, countsIn, arcsIn, netIn, frontWords, bodyWords, indexRows, frontOver, loadedWords, afterLoad, Sized}
 use Rattle.net.specs.Ruled.{frontTests, Fronted, Ruled}
 use Rattle.net.proofs.Bodies.{Shaped, shaped}
 use Rattle.net.proofs.BodyWords.{FitFront, FitArcs, Front, Holds, front-words, with-arcs, ends-in, places-in, counts-in, arcs-in, sized}
 use Rattle.net.proofs.Room.{fit-front, fit-arcs}
-use Rattle.net.proofs.HeldLaws.{tabled, held-sized}
+use Rattle.net.proofs.HeldLaws.{loaded-tabled, held-sized}
 use Rattle.net.specs.Limits.{netWords}
 
 -- words to which neither 3 to 6 nor 7 applies
@@ -40,12 +40,12 @@ refused-words b t n = rw (ne-eqb (loadCode b) 0 n)
 
 -- a table that is taken: 1,684 words, which over the lent words are what loading leaves of those
 module _ (b : List ℕ) (z : loadCode b ≡ 0) where
-  pub loaded-length : length (tableWords b) ≡ netWords
-  loaded-length = held-sized (tableWords b) (tabled b z (tableWords b) refl .held) .size
+  pub loaded-length : length (loadedWords b) ≡ netWords
+  loaded-length = held-sized (loadedWords b) (loaded-tabled b z (loadedWords b) refl .held) .size
 
-  pub taken-words : (t : List ℕ) → length t ≡ netWords → sets t 0 (tableWords b) ≡ afterLoad b t
+  pub taken-words : (t : List ℕ) → length t ≡ netWords → sets t 0 (loadedWords b) ≡ afterLoad b t
   unfolding afterLoad
-  taken-words t e = rw (eq-eqb (loadCode b) 0 z) (sets-all t (tableWords b) (e ∙ sym loaded-length))
+  taken-words t e = rw (eq-eqb (loadCode b) 0 z) (sets-all t (loadedWords b) (e ∙ sym loaded-length))
 
 -- the tests behind those of the shape
 abbrev bodyTests : List ℕ → List (Bool × ℕ)
@@ -134,6 +134,6 @@ module _ (b : List ℕ) (z : first (shapeTests b) ≡ 0) where
     ruled x = ruled-by w2 fronted (none-apply (arcTests (endsIn w2) (placesIn w2) (countsIn w2) (arcsIn w2)) (omega arith) x .0)
 
     -- the words, with the look-up words of their net stored too, are what loading leaves
-    pub loaded : indexRows (netIn w2 .kindOf) 1172 (parts (countsIn w2) (pairUp (arcsIn w2))) w2 ≡ tableWords b
-    unfolding tableWords netIn bodyWords
+    pub loaded : indexRows (netIn w2 .kindOf) 1172 (parts (countsIn w2) (pairUp (arcsIn w2))) w2 ≡ loadedWords b
+    unfolding loadedWords netIn bodyWords
     loaded = rw (ends-in A B C front (length D / 2) w2 (H2 .front), places-in A B C front (length D / 2) w2 (H2 .front), counts-in A B C front (length D / 2) w2 (H2 .front), arcs-in A B C D front arcs w2 H2, sym w1-is)

@@ -20,7 +20,7 @@ ghost use Prim.Native.Nat.{_≤_};
 ghost use lib.ListN.{length, replicate};
 ghost use Rattle.words.specs.Refusals.{first};
 ghost use Rattle.net.specs.Table.{shapeTests, loadCode};
-ghost use Rattle.net.specs.Held.{frontOver, tableWords, loadedWords, afterLoad};
+ghost use Rattle.net.specs.Held.{frontOver, loadedWords, afterLoad};
 ghost use Rattle.net.specs.Answer.{loadAnswerCode};
 ghost use Rattle.net.specs.Limits.{netWords};
 
@@ -50,7 +50,7 @@ fn copy_front(s: &[u8], w: &mut NetWords)
 fn load_bodies(s: &[u8], t: &mut NetWords) -> u32
     requires { ⌜ first (shapeTests (now s)) ≡ 0 ⌝ }
     requires { ⌜ now t ≡ replicate netWords 0 ⌝ }
-    ensures { λ r. ⌜ (r ≡ loadCode (now (s .entry))) × (loadCode (now (s .entry)) ≡ 0 → now (t .exit) ≡ tableWords (now (s .entry))) ⌝ }
+    ensures { λ r. ⌜ (r ≡ loadCode (now (s .entry))) × (loadCode (now (s .entry)) ≡ 0 → now (t .exit) ≡ loadedWords (now (s .entry))) ⌝ }
 {
     copy_front(s, t);
     let front = refuse_front(t);
@@ -68,7 +68,7 @@ fn load_bodies(s: &[u8], t: &mut NetWords) -> u32
 
 fn load_code(s: &[u8], t: &mut NetWords) -> u32
     requires { ⌜ now t ≡ replicate netWords 0 ⌝ }
-    ensures { λ r. ⌜ (r ≡ loadCode (now (s .entry))) × (loadCode (now (s .entry)) ≡ 0 → now (t .exit) ≡ tableWords (now (s .entry))) ⌝ }
+    ensures { λ r. ⌜ (r ≡ loadCode (now (s .entry))) × (loadCode (now (s .entry)) ≡ 0 → now (t .exit) ≡ loadedWords (now (s .entry))) ⌝ }
 {
     let r = refuse_shape(s);
     if r != 0 {
@@ -99,7 +99,7 @@ fn answer(n: u32) -> LoadAnswer
 // Loads a table file into words that are all zero. Where it is refused, nothing is said of them.
 pub fn load_fresh(s: &[u8], t: &mut NetWords) -> LoadAnswer
     requires { ⌜ now t ≡ replicate netWords 0 ⌝ }
-    ensures { λ r. ⌜ (loadAnswerCode r ≡ loadCode (now (s .entry))) × (loadCode (now (s .entry)) ≡ 0 → now (t .exit) ≡ loadedWords (now (s .entry)) (now (t .entry))) ⌝ }
+    ensures { λ r. ⌜ (loadAnswerCode r ≡ loadCode (now (s .entry))) × (loadCode (now (s .entry)) ≡ 0 → now (t .exit) ≡ loadedWords (now (s .entry))) ⌝ }
 {
     let r = load_code(s, t);
     answer(r)

@@ -1,9 +1,9 @@
 -- The part that is loaded is the record's table. Assumes nothing.
 use Prim.Native.Nat.{ℕ, _+_, _-_}
 use mathlib.Core.List.{List}
-use mathlib.Core.Path.{_≡_, ap, ap₂, sym, subst, _∙_}
+use mathlib.Core.Path.{_≡_, ap, sym, subst, _∙_}
 use native.Mathlib.Omega.{arith}
-use lib.ListN.{take, drop, replicate, length-replicate}
+use lib.ListN.{take, drop}
 use Rattle.words.specs.Words.{word}
 use Rattle.net.specs.Table.{loadCode}
 use Rattle.net.specs.Held.{loadedWords}
@@ -13,7 +13,6 @@ use Rattle.checkpoint_restore.proofs.Opening.{spread, opened, table-ref
 use borrow.Author.Needs.{needs}
 use Rattle.checkpoint_restore.proofs.check_table.Statement.{statement}
 use Rattle.checkpoint_restore.proofs.check_table.Tie as tie
-use Rattle.net.specs.Limits.{netWords}
 
 table-is : (c : tie.After-wide) → take (40 + c .wide .result - 40) (drop 40 (c .before .before .before .args .rec .now)) ≡ tableIn (c .before .before .before .args .rec .now)
 table-is c =
@@ -31,8 +30,8 @@ net-held c =
     let z = sym (code-is (c .before)) ∙ c .if1 .left in
     let t = table-is (c .before .before .before .before .before) in
     subst (Opened (s .args .rec .now))
-    (sym (c .before .before .load-fresh .ensures .1 (ap loadCode t ∙ z) ∙ ap₂ loadedWords t (s .pre .1)))
-    (opened (s .args .rec .now) (s .pre .0) (replicate netWords 0) (length-replicate {A = ℕ} netWords 0) z)
+    (sym (c .before .before .load-fresh .ensures .1 (ap loadCode t ∙ z) ∙ ap loadedWords t))
+    (opened (s .args .rec .now) (s .pre .0) z)
 
 word-at-requires : tie.Need-word-at-requires
 word-at-requires c κs = search needs

@@ -1,13 +1,11 @@
 -- A refused table stops the call; else its words hold its net. Assumes nothing.
 use mathlib.Core.Path.{sym, _∙_}
 use Prim.Native.Nat.{ℕ}
-use lib.ListN.{length-replicate}
 use Rattle.net.proofs.HeldLaws.{loaded-tabled}
 use Rattle.client_start.proofs.Starts.{table-stops}
 use borrow.Author.Needs.{needs}
 use Rattle.client_start.proofs.start.Statement.{statement}
 use Rattle.client_start.proofs.start.Tie as tie
-use Rattle.net.specs.Limits.{netWords}
 
 load-fresh-requires : tie.Need-load-fresh-requires
 load-fresh-requires c κs = search needs
@@ -26,7 +24,7 @@ returns c = let a = c .before .before .before .before .before .before .before .b
 begin-requires : tie.Need-begin-requires
 begin-requires c κs = let k = c .before .before .before .before .load-fresh in
     let z = sym (c .before .before .before .code .ensures ∙ k .ensures .0) ∙ c .before .before .if1 .left in
-    loaded-tabled _ _ (length-replicate {A = ℕ} netWords 0) z _ (k .ensures .1 z)
+    loaded-tabled _ z _ (k .ensures .1 z)
 
 same-length : tie.Need-same-length
 same-length c = search needs

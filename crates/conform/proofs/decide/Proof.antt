@@ -1,14 +1,13 @@
 -- A table that is not refused is loaded. Assumes nothing.
 use Prim.Native.Nat.{ℕ}
 use mathlib.Core.Path.{_≡_, ap, sym, _∙_}
-use lib.ListN.{length, length-replicate}
+use lib.ListN.{length}
 use Rattle.net.specs.Answer.{loadAnswerCode}
 use Rattle.net.proofs.HeldLaws.{loaded-tabled}
 use Rattle.conform.proofs.Texts.{load-refused}
 use borrow.Author.Needs.{needs}
 use Rattle.conform.proofs.decide.Statement.{statement}
 use Rattle.conform.proofs.decide.Tie as tie
-use Rattle.net.specs.Limits.{netWords}
 
 load-fresh-requires : tie.Need-load-fresh-requires
 load-fresh-requires c κs = search needs
@@ -27,7 +26,7 @@ read-trail-requires c κs =
     let l = c .before .before .before .before .load-fresh in
     let z : loadAnswerCode (l .result) ≡ 0 = sym (c .before .before .before .code .ensures) ∙ c .before .before .if1 .left in
     let y = sym (l .ensures .0) ∙ z in
-    (loaded-tabled (s .args .table .now) (s .args .t .now) (ap length (s .pre .0) ∙ length-replicate {A = ℕ} netWords 0) y (l .last .1 .0) (l .ensures .1 y), s .pre .1)
+    (loaded-tabled (s .args .table .now) y (l .last .1 .0) (l .ensures .1 y), s .pre .1)
 
 same-length : tie.Need-same-length
 same-length c = search needs

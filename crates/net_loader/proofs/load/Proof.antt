@@ -3,7 +3,7 @@ use mathlib.Core.Path.{_≡_, refl, ap, sym, _∙_}
 use lib.ListN.{length}
 use lib.Seq.{sets}
 use Rattle.net.specs.Table.{loadCode}
-use Rattle.net.specs.Held.{tableWords, loadedWords}
+use Rattle.net.specs.Held.{loadedWords}
 use Rattle.net_loader.proofs.LoadLaws.{refused-words, loaded-length, taken-words}
 use borrow.Author.Needs.{needs}
 use Rattle.net_loader.proofs.load.Statement.{statement}
@@ -27,8 +27,7 @@ returns c =
 taken : (c : tie.Else1) → loadCode (c .before .before .before .before .before .before .before .args .s .now) ≡ 0
 taken c = sym (c .before .before .load-fresh .ensures .0) ∙ sym (c .before .code .ensures) ∙ c .if1 .left
 
-words-are : (c : tie.Else1) → c .before .before .load-fresh .last .1 .0 ≡ tableWords (c .before .before .before .before .before .before .before .args .s .now)
-unfolding loadedWords
+words-are : (c : tie.Else1) → c .before .before .load-fresh .last .1 .0 ≡ loadedWords (c .before .before .before .before .before .before .before .args .s .now)
 words-are c = c .before .before .load-fresh .ensures .1 (taken c)
 
 copy-all-requires : tie.Need-copy-all-requires

@@ -1,6 +1,5 @@
 -- The number is at most 9. Assumes nothing.
 use native.Mathlib.Omega.{arith}
-use Rattle.net.specs.Held.{loadedWords}
 use Rattle.net_loader.proofs.LoadLaws.{code-le}
 use borrow.Author.Needs.{needs}
 use Rattle.net_loader.proofs.load_fresh.Statement.{statement}
@@ -13,7 +12,6 @@ answer-requires : tie.Need-answer-requires
 answer-requires c κs = omega (arith, c .load-code .ensures .0, code-le (c .before .before .before .args .s .now))
 
 returns : tie.Need-returns
-unfolding loadedWords
 returns c = search needs
 
 pub load-fresh-spec : {M : Type 1} → statement M

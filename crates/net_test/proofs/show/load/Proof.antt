@@ -3,12 +3,12 @@ use Prim.Native.Nat.{ℕ}
 use mathlib.Core.Path.{_≡_, sym, _∙_}
 use mathlib.Core.List.{List}
 use Rattle.net.specs.Table.{loadCode}
-use Rattle.net.specs.Held.{tableWords, afterLoad}
+use Rattle.net.specs.Held.{loadedWords, afterLoad}
 use borrow.Author.Needs.{needs}
 use Rattle.net_test.proofs.show.load.Statement.{statement}
 use Rattle.net_test.proofs.show.load.Tie as tie
 
-loaded : (b w : List ℕ) → loadCode b ≡ 0 → afterLoad b w ≡ tableWords b
+loaded : (b w : List ℕ) → loadCode b ≡ 0 → afterLoad b w ≡ loadedWords b
 unfolding afterLoad
 loaded b w e = rw e
 
