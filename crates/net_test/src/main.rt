@@ -24,10 +24,10 @@ fn lines(s: &[u8]) -> bool {
 fn main() {
     let mut buf = io::large_buffer();
     let n = io::read_full(0, &mut buf);
-    if lines(&buf[..n]) {
-        bad();
-    }
     if 65535 < n {
+        return bad();
+    }
+    if lines(&buf[..n]) {
         bad();
     }
 }
