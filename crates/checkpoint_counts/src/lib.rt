@@ -2,6 +2,7 @@
 // Above `net_lookup`; `checkpoint` has the definitions.
 
 use net::NetWords;
+use replay_layout::rows::objects;
 use words::wide;
 ghost use mathlib.Core.Bool.{not};
 ghost use mathlib.Core.List.{[], _∷_};
@@ -102,5 +103,5 @@ pub fn bad_counts(ks: &[u8], cs: &[u8], t: &NetWords) -> bool
     if some_jumps_above(cs, t) {
         return true;
     }
-    bad_closing(closed, words::get_word(cs, 2), ks.len() / 4)
+    bad_closing(closed, words::get_word(cs, 2), objects(ks, t))
 }

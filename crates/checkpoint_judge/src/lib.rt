@@ -6,6 +6,7 @@ use checkpoint_counts::bad_counts;
 use checkpoint_jumps::bad_jumps;
 use checkpoint_positions::bad_positions;
 use net::NetWords;
+use replay_layout::rows::whole;
 use replay_objects::register::register_refusal;
 ghost use mathlib.Core.Path.{_≡_};
 ghost use Rattle.net.specs.Held.{netIn, Held};
@@ -28,7 +29,7 @@ pub fn judge(ks: &[u8], ps: &[u8], cs: &[u8], js: &[u8], t: &NetWords) -> Restor
     ensures { λ r. ⌜ restoreAnswerCode r ≡ judgeCode (netIn (now (t .entry))) (now (ks .entry)) (now (ps .entry)) (now (cs .entry)) (now (js .entry)) ⌝ }
     ensures { λ r. ⌜ restoreAnswerSecond r ≡ judgeSecond (netIn (now (t .entry))) (now (ks .entry)) (now (ps .entry)) (now (cs .entry)) (now (js .entry)) ⌝ }
 {
-    if ks.len() % 4 != 0 {
+    if !whole(ks, t) {
         return RestoreAnswer::Objects(0);
     }
     let n = register_refusal(ks, t);

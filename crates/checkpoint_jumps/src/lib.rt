@@ -4,6 +4,8 @@
 use checkpoint_counts::sum_every;
 use checkpoint_counts::wide64;
 use net::NetWords;
+use replay_layout::rows::kind;
+use replay_layout::rows::objects;
 use words::wide;
 ghost use mathlib.Core.List.{[]};
 ghost use mathlib.Core.Path.{_≡_};
@@ -144,10 +146,10 @@ fn take_sinks(ks: &[u8], t: &NetWords, taken: &mut [u64; 64])
     requires { ⌜ AtMost (netIn (now t) .places) 2199023255552 (now taken) ⌝ }
     ensures { λ _. ⌜ Added (netIn (now (t .entry)) .places) (now (taken .entry)) (now (taken .exit)) (sunkOn (netIn (now (t .entry))) (closerKinds (kindsIn (netIn (now (t .entry))) (now (ks .entry))))) ⌝ }
 {
-    let n = ks.len() / 4;
+    let n = objects(ks, t);
     let mut i = 0;
     while i < n {
-        let q = net_lookup::sink(t, wide(words::get_word(ks, i)));
+        let q = net_lookup::sink(t, wide(kind(ks, t, i)));
         taken[q] += 1;
         i += 1;
     }

@@ -2,6 +2,8 @@
 // Above `net_lookup`; `checkpoint` has the definitions.
 
 use net::NetWords;
+use replay_layout::rows::kind;
+use replay_layout::rows::objects;
 use words::wide;
 ghost use mathlib.Core.List.{[]};
 ghost use mathlib.Core.Path.{_≡_};
@@ -36,7 +38,7 @@ pub fn bad_positions(ks: &[u8], ps: &[u8], t: &NetWords, closed: bool) -> bool
     requires { ⌜ registerCode (netIn (now t)) (kindsIn (netIn (now t)) (now ks)) ≡ 0 ⌝ }
     ensures { λ r. ⌜ r ≡ hit (tests45 (netIn (now (t .entry))) (bodyState (netIn (now (t .entry))) (now (ks .entry)) (now (ps .entry)) [] []) (length (now (ps .entry))) closed) ⌝ }
 {
-    let n = ks.len() / 4;
+    let n = objects(ks, t);
     if ps.len() != 4 * n {
         return true;
     }
@@ -44,7 +46,7 @@ pub fn bad_positions(ks: &[u8], ps: &[u8], t: &NetWords, closed: bool) -> bool
     while o < n {
         if bad_position(
             t,
-            wide(words::get_word(ks, o)),
+            wide(kind(ks, t, o)),
             wide(words::get_word(ps, o)),
             closed,
         ) {

@@ -6,7 +6,7 @@ use checkpoint::Saved;
 use checkpoint_judge::judge;
 use net::NET_WORDS;
 use net::NetWords;
-use replay_objects::MAX_RECORD;
+use replay_layout::MAX_RECORD;
 use words::wide;
 ghost use mathlib.Core.Path.{_≡_};
 ghost use Prim.Native.Nat.{_≤_};

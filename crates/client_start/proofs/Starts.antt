@@ -1,6 +1,7 @@
 -- The answer of starting, by the tests passed on the way. Assumes nothing.
 use Prim.Native.Nat.{ℕ, _+_, _*_, _%_, _≤_}
 use mathlib.Core.Path.{_≡_, sym, _∙_}
+use mathlib.Core.Bool.{false}
 use mathlib.Core.List.{List}
 use native.Mathlib.Omega.{arith}
 use lib.ListN.{length}
@@ -8,7 +9,7 @@ use borrow.Author.Tests.{eq-eqb, ne-eqb}
 use Rattle.net.specs.Table.{netOf, loadCode}
 use Rattle.net.specs.Held.{netIn}
 use Rattle.replay.specs.Plain.{registerCode}
-use Rattle.replay.specs.Register.{kindsIn}
+use Rattle.replay.specs.Register.{kindsIn, wholeRows}
 use Rattle.replay.specs.Record.{countsSize}
 use Rattle.replay.specs.Calls.{startCode, startBytes}
 use Rattle.replay_start.specs.Startable.{Startable}
@@ -31,9 +32,9 @@ module _ (table objects lent : List ℕ) where
   unfolding beginCode
   table-stops p c n e f = stopped c (rw (ne-eqb (loadCode table) 0 p) e) (λ z. p (sym e ∙ z)) n f
 
-  pub rows-stop : loadCode table ≡ 0 → (length objects % 4 ≡ 0 → ⊥) → (11 ≡ startAnswer table objects (length lent)) × (lent ≡ startLeaves table objects lent)
+  pub rows-stop : loadCode table ≡ 0 → wholeRows (netOf table) objects ≡ false → (11 ≡ startAnswer table objects (length lent)) × (lent ≡ startLeaves table objects lent)
   unfolding beginCode
-  rows-stop z p = stopped 11 (rw (eq-eqb (loadCode table) 0 z, ne-eqb (length objects % 4) 0 p)) (λ e. omega arith) 11 (omega arith)
+  rows-stop z p = stopped 11 (rw (eq-eqb (loadCode table) 0 z, p)) (λ e. omega arith) 11 (omega arith)
 
   -- a register of whole rows
   module _ (t : List ℕ) (S : Startable t table objects) where

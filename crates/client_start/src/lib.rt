@@ -5,6 +5,7 @@ use client_answers::pack;
 use client_answers::start_code;
 use net::NET_WORDS;
 use net::NetWords;
+use replay_layout::rows::whole;
 ghost use mathlib.Core.Path.{_≡_};
 ghost use lib.ListN.{length};
 ghost use Rattle.net.specs.Held.{Tabled};
@@ -40,7 +41,7 @@ fn begin(t: &NetWords, table: &[u8], objects: &[u8], trail: &mut [u8]) -> u64
     requires { ⌜ Tabled (now t) (now table) ⌝ }
     ensures { λ r. ⌜ (r ≡ startAnswer (now (table .entry)) (now (objects .entry)) (length (now (trail .entry)))) × (now (trail .exit) ≡ startLeaves (now (table .entry)) (now (objects .entry)) (now (trail .entry))) ⌝ }
 {
-    if objects.len() % 4 != 0 {
+    if !whole(objects, t) {
         return 11;
     }
     begin_rows(t, table, objects, trail)

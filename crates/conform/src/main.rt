@@ -15,7 +15,7 @@ use program_input::read_some;
 use program_input::skip;
 use program_output::Ending;
 use program_output::print;
-use replay_objects::MAX_RECORD;
+use replay_layout::MAX_RECORD;
 use trace_header::Contents;
 use trace_header::opening_refusal;
 use trace_header::read_contents;

@@ -17,7 +17,7 @@ use Rattle.replay.specs.Calls.{stateAt, askCode, askBytes}
 use Rattle.replay.specs.Ready.{KnownKinds}
 use Rattle.replay.specs.Register.{kindsIn}
 use Rattle.replay.proofs.Accepted.{accepted}
-use Rattle.replay_objects.proofs.RecordLaws.{ready-loaded, ready-sound}
+use Rattle.replay_layout.proofs.RecordLaws.{ready-loaded, ready-sound}
 use Rattle.replay.proofs.Calls.{code-is, ready-asked, state-taken}
 use Rattle.trace_reader.specs.declared.Answer.{Answer}
 use Rattle.trace_reader.specs.declared.Found.{Found}

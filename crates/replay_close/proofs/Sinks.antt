@@ -12,12 +12,12 @@ use Rattle.replay.specs.Plain.{Leg, ending, endings}
 use Rattle.replay.specs.State.{State, withClosed, withClosing, hopIndex, leapsOf, closeJumps, afterLegs, afterClose}
 use Rattle.replay.specs.Record.{recordWords, tableIn}
 use Rattle.replay.specs.Calls.{stateAt}
-use Rattle.replay_objects.specs.Offsets.{layoutOf, closedAt, closingAt}
+use Rattle.replay_layout.specs.Offsets.{layoutOf, closedAt, closingAt}
 use Rattle.replay.specs.Ready.{Ready}
 use Rattle.replay_moves.specs.Moves.{raise, jumpsTo, goWords}
-use Rattle.replay_objects.specs.declared.layout.Layout.{Layout}
+use Rattle.replay_layout.specs.declared.Layout.{Layout}
 use Rattle.replay.proofs.Tally.{length-tally}
-use Rattle.replay_objects.proofs.RecordLaws.{Placed, placed-same, record-size, put-closed, ready-loaded, ready-sound}
+use Rattle.replay_layout.proofs.RecordLaws.{Placed, placed-same, record-size, put-closed, ready-loaded, ready-sound}
 use Rattle.replay_moves.proofs.Layouts.{placed-at, kind-of-in}
 use Rattle.replay_moves.proofs.Walk.{length-walked, close-counter}
 use Rattle.replay_moves.proofs.Legs.{LegsLeft, legs-turn, legs-end}

@@ -2,13 +2,13 @@
 // Above `replay_moves`, which moves an object, and `replay`, whose definitions its contracts cite. The program and the C calls close by it.
 
 use net::NetWords;
+use replay_layout::Layout;
+use replay_layout::closed_at;
+use replay_layout::closing_at;
+use replay_layout::get_kind;
+use replay_layout::read_layout;
 use replay_moves::add;
 use replay_moves::move_object;
-use replay_objects::layout::Layout;
-use replay_objects::layout::closed_at;
-use replay_objects::layout::closing_at;
-use replay_objects::layout::get_kind;
-use replay_objects::layout::read_layout;
 ghost use mathlib.Core.Path.{_≡_};
 ghost use Rattle.words.specs.Words.{wordsOf};
 ghost use Rattle.net.specs.Held.{netIn};
@@ -16,7 +16,7 @@ ghost use Rattle.replay.specs.Plain.{endings};
 ghost use Rattle.replay.specs.State.{closeJumps, afterLegs};
 ghost use Rattle.replay.specs.Record.{tableIn, recordWords};
 ghost use Rattle.replay.specs.Calls.{stateAt, askCode, askBytes};
-ghost use Rattle.replay_objects.specs.Offsets.{layoutOf};
+ghost use Rattle.replay_layout.specs.Offsets.{layoutOf};
 ghost use Rattle.replay.specs.Ready.{Ready};
 ghost use Rattle.replay_close.specs.Answers.{closeAnswerCode, askClose};
 

@@ -17,7 +17,7 @@ use Rattle.net.specs.Held.{netIn}
 use Rattle.replay.specs.State.{State, inputs, storedPair, storedMoved}
 use Rattle.replay.specs.Calls.{stateAt}
 use Rattle.replay.specs.Ready.{Ready}
-use Rattle.replay_objects.proofs.RecordLaws.{ready-loaded}
+use Rattle.replay_layout.proofs.RecordLaws.{ready-loaded}
 use Rattle.replay_stored.proofs.StoredLaws.{fired-few, jumps-few, pair-few}
 
 -- sums

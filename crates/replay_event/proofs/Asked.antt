@@ -18,13 +18,13 @@ use Rattle.net.proofs.IndexLaws.{arc-has}
 use Rattle.replay.specs.Plain.{objectKinds, objectTests}
 use Rattle.replay.specs.Record.{counts, countsSize, contents, encode, tableIn, stateIn}
 use Rattle.replay.specs.Calls.{netAt, stateAt}
-use Rattle.replay_objects.specs.Offsets.{layoutOf, eventsAt, jumpsAt}
+use Rattle.replay_layout.specs.Offsets.{layoutOf, eventsAt, jumpsAt}
 use Rattle.replay.specs.Ready.{Ready, KnownKinds}
 use Rattle.replay.specs.Register.{kindsIn}
 use Rattle.replay_event.specs.Answers.{ObjectCode, Counted, Moving}
-use Rattle.replay_objects.specs.declared.layout.Layout.{Layout}
+use Rattle.replay_layout.specs.declared.Layout.{Layout}
 use Rattle.replay.proofs.Encode.{fit-kinds}
-use Rattle.replay_objects.proofs.RecordLaws.{Placed, get-events, ready-loaded, ready-sound, ready-words, ready-length}
+use Rattle.replay_layout.proofs.RecordLaws.{Placed, get-events, ready-loaded, ready-sound, ready-words, ready-length}
 use Rattle.replay_moves.proofs.Layouts.{placed-at, words-size, words-few, kind-of-in}
 use Rattle.replay.specs.Limits.{maxRecord, maxWords}
 

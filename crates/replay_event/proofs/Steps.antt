@@ -9,9 +9,9 @@ use Rattle.net.specs.Net.{Net, inputOf, outputOf}
 use Rattle.replay.specs.Plain.{leg}
 use Rattle.replay.specs.State.{State, actJumps}
 use Rattle.replay.specs.Record.{recordWords}
-use Rattle.replay_objects.specs.Offsets.{jumpsAt}
+use Rattle.replay_layout.specs.Offsets.{jumpsAt}
 use Rattle.replay_moves.specs.Moves.{raise, jumpsTo, goWords}
-use Rattle.replay_objects.specs.declared.layout.Layout.{Layout}
+use Rattle.replay_layout.specs.declared.Layout.{Layout}
 use Rattle.replay_moves.proofs.Walk.{act-counter}
 use Rattle.replay_moves.proofs.Legs.{LegsLeft, legs-turn, legs-end}
 

@@ -9,15 +9,15 @@ use Rattle.replay.specs.Plain.{Leg, Hop, legs, eventOf, askEvent}
 use Rattle.replay.specs.State.{State, withEvents, bump, hopIndex, leapsOf, actJumps, afterLegs, afterEvent, answerS}
 use Rattle.replay.specs.Record.{recordWords, tableIn}
 use Rattle.replay.specs.Calls.{stateAt}
-use Rattle.replay_objects.specs.Offsets.{layoutOf, eventsAt, firedAt}
+use Rattle.replay_layout.specs.Offsets.{layoutOf, eventsAt, firedAt}
 use Rattle.replay.specs.Ready.{Ready}
 use Rattle.replay_moves.specs.Moves.{CanAdd}
 use Rattle.replay_event.specs.Answers.{Moving}
-use Rattle.replay_objects.specs.declared.layout.Layout.{Layout}
+use Rattle.replay_layout.specs.declared.Layout.{Layout}
 use Rattle.replay.proofs.Accepted.{accepted}
 use Rattle.replay.proofs.Tally.{length-tally}
 use Rattle.replay.proofs.Encode.{fired-le}
-use Rattle.replay_objects.proofs.RecordLaws.{Placed, placed-same, record-size, get-events, get-fired, put-events, put-fired, ready-loaded, ready-sound}
+use Rattle.replay_layout.proofs.RecordLaws.{Placed, placed-same, record-size, get-events, get-fired, put-events, put-fired, ready-loaded, ready-sound}
 use Rattle.replay_moves.proofs.Layouts.{placed-at}
 use Rattle.replay_moves.proofs.Walk.{length-walked}
 

@@ -9,9 +9,9 @@ use Rattle.net.specs.Net.{takes}
 use Rattle.net.specs.Held.{netIn}
 use Rattle.replay.specs.Plain.{objectKinds}
 use Rattle.replay.specs.Calls.{stateAt}
-use Rattle.replay_objects.specs.Offsets.{layoutOf}
+use Rattle.replay_layout.specs.Offsets.{layoutOf}
 use Rattle.replay.specs.Ready.{Ready}
-use Rattle.replay_objects.specs.declared.layout.Layout.{Layout}
+use Rattle.replay_layout.specs.declared.Layout.{Layout}
 use Rattle.replay_event.specs.declared.EventAnswer.{EventAnswer}
 use Rattle.replay_event.specs.declared.EventAnswer.the-variants.{Taken, Closed, Full, Activity, Number, Object, Kind, TwoOfKind}
 

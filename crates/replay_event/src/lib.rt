@@ -3,16 +3,16 @@
 // Above `replay_moves`, which moves an object, and `replay`, whose tests it uses and whose definitions its contracts cite.
 
 use net::NetWords;
+use replay_layout::Layout;
+use replay_layout::closed_at;
+use replay_layout::events_at;
+use replay_layout::fired_at;
+use replay_layout::get_kind;
+use replay_layout::jumps_at;
+use replay_layout::read_layout;
 use replay_moves::add;
 use replay_moves::add_one;
 use replay_moves::move_object;
-use replay_objects::layout::Layout;
-use replay_objects::layout::closed_at;
-use replay_objects::layout::events_at;
-use replay_objects::layout::fired_at;
-use replay_objects::layout::get_kind;
-use replay_objects::layout::jumps_at;
-use replay_objects::layout::read_layout;
 use replay_objects::objects::refuse_objects;
 ghost use mathlib.Core.Path.{_≡_};
 ghost use Rattle.words.specs.Refusals.{first};
@@ -22,7 +22,7 @@ ghost use Rattle.replay.specs.Plain.{legs, objectTests, eventOf, askEvent};
 ghost use Rattle.replay.specs.State.{actJumps, afterLegs, afterEvent, answerS};
 ghost use Rattle.replay.specs.Record.{tableIn, recordWords};
 ghost use Rattle.replay.specs.Calls.{stateAt, askCode, askBytes};
-ghost use Rattle.replay_objects.specs.Offsets.{layoutOf};
+ghost use Rattle.replay_layout.specs.Offsets.{layoutOf};
 ghost use Rattle.replay.specs.Ready.{Ready};
 ghost use Rattle.replay_event.specs.Answers.{eventAnswerCode, ObjectCode, Counted, Moving};
 

@@ -10,12 +10,12 @@ use Rattle.words.proofs.Lists.{All-append, All-of}
 use Rattle.net.specs.Held.{netIn}
 use Rattle.replay.specs.Record.{counts, recordWords, tableIn}
 use Rattle.replay.specs.Calls.{stateAt}
-use Rattle.replay_objects.specs.Offsets.{layoutOf}
+use Rattle.replay_layout.specs.Offsets.{layoutOf}
 use Rattle.replay.specs.Ready.{Ready}
-use Rattle.replay_objects.specs.declared.layout.Layout.{Layout}
+use Rattle.replay_layout.specs.declared.Layout.{Layout}
 use Rattle.replay.proofs.Interleave.{All-interleave}
 use Rattle.replay.proofs.Encode.{fired-le, jumps-le, closing-few, pairs-le}
-use Rattle.replay_objects.proofs.RecordLaws.{Placed, get-place, get-tail, ready-loaded, ready-sound, ready-words}
+use Rattle.replay_layout.proofs.RecordLaws.{Placed, get-place, get-tail, ready-loaded, ready-sound, ready-words}
 use Rattle.replay_moves.proofs.Layouts.{placed-at}
 use Rattle.replay_moves.proofs.Walk.{Walk}
 

@@ -9,10 +9,10 @@ use Rattle.words.proofs.Lists.{All-at}
 use Rattle.net.specs.Held.{netIn}
 use Rattle.replay.specs.Record.{countsSize, tableIn}
 use Rattle.replay.specs.Calls.{stateAt}
-use Rattle.replay_objects.specs.Offsets.{layoutOf, closedAt}
+use Rattle.replay_layout.specs.Offsets.{layoutOf, closedAt}
 use Rattle.replay.specs.Ready.{Ready}
-use Rattle.replay_objects.specs.declared.layout.Layout.{Layout}
-use Rattle.replay_objects.proofs.RecordLaws.{Placed, record-size, record-few, get-closed, ready-sound, ready-words, ready-placed}
+use Rattle.replay_layout.specs.declared.Layout.{Layout}
+use Rattle.replay_layout.proofs.RecordLaws.{Placed, record-size, record-few, get-closed, ready-sound, ready-words, ready-placed}
 use Rattle.replay.specs.Limits.{maxWords}
 
 module _ (w b : List ℕ) (l : Layout) (R : Ready w b) (e : l ≡ layoutOf (netIn w) b) where

@@ -11,7 +11,7 @@ use Rattle.replay.specs.Plain.{Leg, Hop, jumped, hops, walked}
 use Rattle.replay.specs.State.{State, withPlaces, withPairs, bump, tally, hopIndex, afterLegs}
 use Rattle.replay.specs.Record.{recordWords}
 use Rattle.replay.specs.Claims.{judged}
-use Rattle.replay_objects.specs.declared.layout.Layout.{Layout}
+use Rattle.replay_layout.specs.declared.Layout.{Layout}
 use Rattle.replay_moves.specs.Moves.{raise, jumpsTo, goWords}
 use Rattle.replay_moves.proofs.Walk.{Summing, Counter, legState, leg-kinds, sum-turn}
 

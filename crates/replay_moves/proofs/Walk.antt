@@ -16,10 +16,10 @@ use Rattle.replay.specs.Plain.{Leg, Hop, walked}
 use Rattle.replay.specs.State.{State, withPlaces, withClosing, withJumps, withPairs, bump, hopIndex, actJumps, closeJumps}
 use Rattle.replay.specs.Record.{recordWords}
 use Rattle.replay.specs.Claims.{judged}
-use Rattle.replay_objects.specs.Offsets.{kindAt, placeAt, closingAt, jumpsAt, pairAt}
+use Rattle.replay_layout.specs.Offsets.{kindAt, placeAt, closingAt, jumpsAt, pairAt}
 use Rattle.replay_moves.specs.Moves.{raise, jumpsTo, goWords, CanAdd, CanMove}
-use Rattle.replay_objects.specs.declared.layout.Layout.{Layout}
-use Rattle.replay_objects.proofs.RecordLaws.{Placed, placed-same, record-size, record-few, get-kind, get-place, get-pair, get-jumps, get-closing, put-place, put-pair, put-jumps, put-closing}
+use Rattle.replay_layout.specs.declared.Layout.{Layout}
+use Rattle.replay_layout.proofs.RecordLaws.{Placed, placed-same, record-size, record-few, get-kind, get-place, get-pair, get-jumps, get-closing, put-place, put-pair, put-jumps, put-closing}
 use Rattle.replay.specs.Limits.{maxWords}
 
 -- a jump from p to q is counted at the pair and at number `own`; where p is q there is none

@@ -4,8 +4,8 @@ use mathlib.Core.List.{List}
 use lib.ListN.{length, getD, set}
 use lib.Dec.{eqb}
 use Rattle.words.specs.Lists.{pick}
-use Rattle.replay_objects.specs.declared.layout.Layout.{Layout}
-use Rattle.replay_objects.specs.Offsets.{placeAt, pairAt}
+use Rattle.replay_layout.specs.declared.Layout.{Layout}
+use Rattle.replay_layout.specs.Offsets.{placeAt, pairAt}
 use Rattle.replay.specs.Limits.{maxWords}
 
 -- number i is d more

@@ -1,10 +1,10 @@
 // One object of an event or of the close: it is sought on a place, jumps there from any other, and is left on a place.
 // Above `replay`, whose layout it uses. `replay_event` and `replay_close` move objects by it, and share its laws.
 
-use replay_objects::layout::Layout;
-use replay_objects::layout::get_place;
-use replay_objects::layout::pair_index;
-use replay_objects::layout::put_place;
+use replay_layout::Layout;
+use replay_layout::get_place;
+use replay_layout::pair_index;
+use replay_layout::put_place;
 ghost use mathlib.Core.Path.{_≡_};
 ghost use Prim.Native.Nat.{_+_, _≤_};
 ghost use lib.Dec.{eqb};

@@ -1,3 +1,2 @@
 mod ObjectLaws
 mod PairLaws
-pub mod RecordLaws

@@ -1,10 +1,10 @@
 // The tests 25 to 27 of an event's objects, which an event on a trail and an event in a trail file share.
 
 use crate::kinds::two_of_kind;
-use crate::register::kind;
-use crate::register::objects;
 use net::NetWords;
 use net_lookup::takes_kind;
+use replay_layout::rows::kind;
+use replay_layout::rows::objects;
 use words::get_word;
 use words::wide;
 ghost use mathlib.Core.Bool.{not};

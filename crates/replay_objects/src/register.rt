@@ -1,32 +1,17 @@
-// A register's bytes: its rows, and the refusals 11 and 12, which starting, taking up and opening a trail file share.
+// The refusals 11 and 12 of a register's bytes, which starting, taking up and opening a trail file share.
 
 use net::NetWords;
 use net_lookup::kinds;
-use words::get_word;
+use replay_layout::rows::kind;
+use replay_layout::rows::objects;
 use words::wide;
 ghost use mathlib.Core.Path.{_≡_};
-ghost use Prim.Native.Nat.{ℕ, _<_};
+ghost use Prim.Native.Nat.{ℕ};
 ghost use lib.Dec.{leb};
-ghost use lib.ListN.{length, getD};
 ghost use Rattle.words.specs.Lists.{any};
 ghost use Rattle.net.specs.Held.{netIn, Held};
 ghost use Rattle.replay.specs.Plain.{registerCode};
 ghost use Rattle.replay.specs.Register.{kindsIn};
-
-// How many objects a register of the net's has.
-pub fn objects(register: &[u8], t: &NetWords) -> usize
-    ensures { λ r. ⌜ r ≡ length (kindsIn (netIn (now (t .entry))) (now (register .entry))) ⌝ }
-{
-    register.len() / 4
-}
-
-// The kind of object o.
-pub fn kind(register: &[u8], t: &NetWords, o: usize) -> u32
-    requires { ⌜ o < length (kindsIn (netIn (now t)) (now register)) ⌝ }
-    ensures { λ r. ⌜ r ≡ getD (kindsIn (netIn (now (t .entry))) (now (register .entry))) o 0 ⌝ }
-{
-    get_word(register, o)
-}
 
 // 12: an object of unknown kind.
 fn unknown_kind(register: &[u8], t: &NetWords) -> bool

@@ -23,7 +23,7 @@ use Rattle.replay.specs.Sound.{Sound}
 use Rattle.replay.specs.Record.{interleave, counts, countsSize, contents, recordWords}
 use Rattle.replay.specs.Register.{kindsIn}
 use Rattle.replay.specs.Calls.{startRecord, startCode, startBytes}
-use Rattle.replay_objects.specs.declared.layout.Layout.{Layout}
+use Rattle.replay_layout.specs.declared.Layout.{Layout}
 use Rattle.replay_start.specs.Startable.{Startable, startLayout, contentsOf}
 use Rattle.replay.proofs.Accepted.{registered}
 use Rattle.replay.proofs.Keep.{sound-start}

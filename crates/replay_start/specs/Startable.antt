@@ -7,7 +7,7 @@ use Rattle.net.specs.Net.{Net}
 use Rattle.net.specs.Held.{netIn, Tabled}
 use Rattle.replay.specs.Record.{countsSize}
 use Rattle.replay.specs.Register.{rowBytes}
-use Rattle.replay_objects.specs.declared.layout.Layout.{Layout}
+use Rattle.replay_layout.specs.declared.Layout.{Layout}
 
 -- the words hold the net of the table file, which loads; the register has whole rows
 pub record Startable (t table objects : List ℕ) : Type 0 where

@@ -2,8 +2,8 @@
 // Above `net_lookup` and `replay`, whose definitions its contracts cite. The program and the C calls start by it.
 
 use net::NetWords;
-use replay_objects::layout::Layout;
-use replay_objects::layout::put_place;
+use replay_layout::Layout;
+use replay_layout::put_place;
 use replay_objects::register::register_refusal;
 ghost use mathlib.Core.Path.{_≡_};
 ghost use mathlib.Core.List.{map};
@@ -19,7 +19,7 @@ ghost use Rattle.replay.specs.Record.{countsSize};
 ghost use Rattle.replay.specs.Calls.{startRecord, startCode, startBytes};
 ghost use Rattle.replay_start.specs.StartAnswers.{startAnswerCode};
 ghost use Rattle.replay.specs.Register.{kindsIn};
-ghost use Rattle.replay_objects.specs.Offsets.{placeAt};
+ghost use Rattle.replay_layout.specs.Offsets.{placeAt};
 ghost use Rattle.replay_start.specs.Startable.{Startable, startLayout, contentsOf};
 ghost use Rattle.net.specs.Limits.{maxTable};
 
@@ -107,7 +107,7 @@ fn put_source(t: &NetWords, objects: &[u8], out: &mut [u8], lay: Layout, o: usiz
     requires { ⌜ (o < length (kindsIn (netIn (now t)) (now objects))) × (placeAt lay o < length (wordsOf (now out))) ⌝ }
     ensures { λ _. ⌜ wordsOf (now (out .exit)) ≡ set (wordsOf (now (out .entry))) (placeAt lay o) (getD (map (netIn (now (t .entry)) .source) (kindsIn (netIn (now (t .entry))) (now (objects .entry)))) o 0) ⌝ }
 {
-    let k = words::wide(replay_objects::register::kind(objects, t, o));
+    let k = words::wide(replay_layout::rows::kind(objects, t, o));
     let q = net_lookup::source(t, k);
     put_place(out, lay, o, q as u32);
 }
@@ -119,7 +119,7 @@ fn put_sources(t: &NetWords, objects: &[u8], out: &mut [u8], lay: Layout)
     requires { ⌜ placeAt lay (length (kindsIn (netIn (now t)) (now objects))) ≤ length (wordsOf (now out)) ⌝ }
     ensures { λ _. ⌜ wordsOf (now (out .exit)) ≡ sets (wordsOf (now (out .entry))) (lay .positions) (map (netIn (now (t .entry)) .source) (kindsIn (netIn (now (t .entry))) (now (objects .entry)))) ⌝ }
 {
-    let n = replay_objects::register::objects(objects, t);
+    let n = replay_layout::rows::objects(objects, t);
     let mut o = 0;
     while o < n {
         put_source(t, objects, out, lay, o);
@@ -165,11 +165,7 @@ fn fill(t: &NetWords, table: &[u8], objects: &[u8], out: &mut [u8])
 {
     let counts = counts_bytes(t);
     let pairs = pairs_bytes(t);
-    let lay = start_layout(
-        t,
-        table.len() / 4,
-        replay_objects::register::objects(objects, t),
-    );
+    let lay = start_layout(t, table.len() / 4, replay_layout::rows::objects(objects, t));
     put_contents(out, table.len(), objects.len(), counts, pairs);
     copy_words(table, out, 10);
     copy_words(objects, out, lay.register);

@@ -9,8 +9,8 @@ use Rattle.words.specs.Words.{wordsOf}
 use Rattle.words.proofs.Lists.{All-at}
 use Rattle.net.specs.Net.{Net}
 use Rattle.net.specs.Held.{netIn}
-use Rattle.replay_objects.specs.declared.layout.Layout.{Layout}
-use Rattle.replay_objects.specs.Offsets.{layoutOf, kindAt, closedAt, eventsAt, closingAt, firedAt, jumpsAt, pairAt}
+use Rattle.replay_layout.specs.declared.Layout.{Layout}
+use Rattle.replay_layout.specs.Offsets.{layoutOf, kindAt, closedAt, eventsAt, closingAt, firedAt, jumpsAt, pairAt}
 use Rattle.replay.specs.Limits.{maxWords}
 use Rattle.replay.specs.State.{State, storedPair}
 use Rattle.replay.specs.Record.{recordWords, tableIn}
@@ -18,7 +18,7 @@ use Rattle.replay.specs.Calls.{stateAt}
 use Rattle.replay.specs.Ready.{Ready}
 use Rattle.replay.proofs.Accepted.{closers-length}
 use Rattle.replay.proofs.Encode.{fired-le, jumps-le, pairs-le}
-use Rattle.replay_objects.proofs.RecordLaws.{Placed, record-size, record-few, get-kind, get-closed, get-events, get-closing, get-fired, get-jumps, get-pair, ready-loaded, ready-sound, ready-words, ready-placed}
+use Rattle.replay_layout.proofs.RecordLaws.{Placed, record-size, record-few, get-kind, get-closed, get-events, get-closing, get-fired, get-jumps, get-pair, ready-loaded, ready-sound, ready-words, ready-placed}
 
 -- number i of the bytes is there, and is x
 pub record At (b : List ℕ) (i x : ℕ) : Type 0 where

@@ -2,14 +2,14 @@
 // Above `replay_objects`, which knows the offsets. `replay_counts` sums what it reads.
 
 use net::NetWords;
-use replay_objects::layout::closed_at;
-use replay_objects::layout::closing_at;
-use replay_objects::layout::events_at;
-use replay_objects::layout::fired_at;
-use replay_objects::layout::get_kind;
-use replay_objects::layout::jumps_at;
-use replay_objects::layout::pair_index;
-use replay_objects::layout::read_layout;
+use replay_layout::closed_at;
+use replay_layout::closing_at;
+use replay_layout::events_at;
+use replay_layout::fired_at;
+use replay_layout::get_kind;
+use replay_layout::jumps_at;
+use replay_layout::pair_index;
+use replay_layout::read_layout;
 ghost use mathlib.Core.Path.{_≡_};
 ghost use Prim.Native.Nat.{_<_, _≤_};
 ghost use lib.ListN.{length, getD};

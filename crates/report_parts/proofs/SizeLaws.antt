@@ -11,7 +11,7 @@ use Rattle.words.specs.Lists.{pick}
 use Rattle.net.specs.Net.{Net, Loaded}
 use Rattle.replay.specs.Calls.{netAt, stateAt}
 use Rattle.replay.specs.Ready.{Ready}
-use Rattle.replay_objects.proofs.RecordLaws.{ready-loaded}
+use Rattle.replay_layout.proofs.RecordLaws.{ready-loaded}
 use Rattle.report.specs.TrailLines.{placeLineAt, actLineAt, jumpLineAt}
 use Rattle.report.specs.Lengths.{maxLine, LinesFit}
 use Rattle.report.proofs.PairIndex.{row-lt, column-lt}

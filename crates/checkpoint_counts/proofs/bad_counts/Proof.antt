@@ -83,15 +83,18 @@ returns-5 c = let s = c .before .before .before .before .before .before .before 
 get-word-requires-3 : tie.Need-get-word-requires-3
 get-word-requires-3 c κs = omega (arith, sized (c .before .before .before .before .before .before .before .before .before) .1)
 
+objects-requires : tie.Need-objects-requires
+objects-requires c κs = search needs
+
 bad-closing-requires : tie.Need-bad-closing-requires
 bad-closing-requires c κs = search needs
 
 returns-6 : tie.Need-returns-6
 returns-6 c =
-    let s = c .before .before .before .before .before .before .before .before .before .before .before .before .before .before .before in
-    c .bad-closing .ensures ∙ ap (λ (n : ℕ). either (ltb n (c .before .get-word3 .result) ∷ both (eqb (c .before .before .before .before .before .before .before .before .before .before .get-word .result) 0) (not (eqb (c .before .get-word3 .result) 0)) ∷ [])) (sym (closers-length (kindsIn (netIn (s .args .t .now)) (s .args .ks .now)) ∙ length-words (s .args .ks .now)))
-    ∙ ap₂ (λ (x y : ℕ). either (ltb (length (closers (kindsIn (netIn (s .args .t .now)) (s .args .ks .now)))) y ∷ both (eqb x 0) (not (eqb y 0)) ∷ [])) (c .before .before .before .before .before .before .before .before .before .before .get-word .ensures) (c .before .get-word3 .ensures)
-    ∙ counts-closing (netIn (s .args .t .now)) (s .args .ks .now) (s .args .cs .now) (length (s .args .cs .now)) (sized (c .before .before .before .before .before .before .before .before .before .before .before) .0) (flag (c .before .before .before .before .before .before .before .before .before)) (events (c .before .before .before .before .before .before .before)) (sum-is (c .before .before .before .before)) (sym (c .before .before .before .some-jumps-above .ensures) ∙ c .before .before .if5 .left)
+    let s = c .before .before .before .before .before .before .before .before .before .before .before .before .before .before .before .before in
+    c .bad-closing .ensures ∙ ap (λ (n : ℕ). either (ltb n (c .before .before .get-word3 .result) ∷ both (eqb (c .before .before .before .before .before .before .before .before .before .before .before .get-word .result) 0) (not (eqb (c .before .before .get-word3 .result) 0)) ∷ [])) (c .before .objects .ensures ∙ sym (closers-length (kindsIn (netIn (s .args .t .now)) (s .args .ks .now))))
+    ∙ ap₂ (λ (x y : ℕ). either (ltb (length (closers (kindsIn (netIn (s .args .t .now)) (s .args .ks .now)))) y ∷ both (eqb x 0) (not (eqb y 0)) ∷ [])) (c .before .before .before .before .before .before .before .before .before .before .before .get-word .ensures) (c .before .before .get-word3 .ensures)
+    ∙ counts-closing (netIn (s .args .t .now)) (s .args .ks .now) (s .args .cs .now) (length (s .args .cs .now)) (sized (c .before .before .before .before .before .before .before .before .before .before .before .before) .0) (flag (c .before .before .before .before .before .before .before .before .before .before)) (events (c .before .before .before .before .before .before .before .before)) (sum-is (c .before .before .before .before .before)) (sym (c .before .before .before .before .some-jumps-above .ensures) ∙ c .before .before .before .if5 .left)
 
 pub bad-counts-spec : {M : Type 1} → statement M
 bad-counts-spec =
@@ -112,5 +115,6 @@ bad-counts-spec =
     some-jumps-above-requires
     returns-5
     get-word-requires-3
+    objects-requires
     bad-closing-requires
     returns-6)

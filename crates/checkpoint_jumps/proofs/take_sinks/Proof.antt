@@ -28,26 +28,29 @@ abbrev μ-loop : tie.MeasureT-loop
 μ-loop ks t taken₀ n i₀ taken i = n - i
 
 -- the object's kind, and its sink, are known
-kind : (c : tie.After-wide Inv-loop μ-loop) → c .wide .result < netIn (c .before .before .before .before .before .args .t .now) .kinds
+kind : (c : tie.After-wide Inv-loop μ-loop) → c .wide .result < netIn (c .before .before .before .before .before .before .args .t .now) .kinds
 kind c =
-    let s = c .before .before .before .before .before in
+    let s = c .before .before .before .before .before .before in
     let K : List ℕ = wordsOf (s .args .ks .now) in
-    omega (arith, All-at (λ (k : ℕ). k < netIn (s .args .t .now) .kinds) 0 K (registered (netIn (s .args .t .now)) K (s .pre .1 .0) .kinds) (c .before .before .before .loop .i) (omega (arith, length-words (s .args .ks .now))), c .wide .ensures, c .before .get-word .ensures)
+    omega (arith, All-at (λ (k : ℕ). k < netIn (s .args .t .now) .kinds) 0 K (registered (netIn (s .args .t .now)) K (s .pre .1 .0) .kinds) (c .before .before .before .loop .i) (omega (arith, length-words (s .args .ks .now))), c .wide .ensures, c .before .kind .ensures)
 
-known : (c : tie.After-sink Inv-loop μ-loop) → (c .sink .result < netIn (c .before .before .before .before .before .before .args .t .now) .places) × (c .sink .result < 64)
-known c = let s = c .before .before .before .before .before .before in let L = held-loaded (s .args .t .now) (s .pre .0) in let h = L .sink-in (c .before .wide .result) (kind (c .before)) in (omega (arith, c .sink .ensures), omega (arith, c .sink .ensures, L .places-le))
+known : (c : tie.After-sink Inv-loop μ-loop) → (c .sink .result < netIn (c .before .before .before .before .before .before .before .args .t .now) .places) × (c .sink .result < 64)
+known c = let s = c .before .before .before .before .before .before .before in let L = held-loaded (s .args .t .now) (s .pre .0) in let h = L .sink-in (c .before .wide .result) (kind (c .before)) in (omega (arith, c .sink .ensures), omega (arith, c .sink .ensures, L .places-le))
+
+objects-requires : tie.Need-objects-requires Inv-loop μ-loop
+objects-requires c κs = search needs
 
 loop-holds : tie.Need-loop-holds Inv-loop μ-loop
-loop-holds c = let m = c .before .pre .1 .1 in (omega arith, m .size, λ q h. (refl, m .at q h))
+loop-holds c = let m = c .before .before .pre .1 .1 in (omega arith, m .size, λ q h. (refl, m .at q h))
 
-get-word-requires : tie.Need-get-word-requires Inv-loop μ-loop
-get-word-requires c κs = omega (arith, length-words (c .before .before .before .args .ks .now))
+kind-requires : tie.Need-kind-requires Inv-loop μ-loop
+kind-requires c κs = omega (arith, length-words (c .before .before .before .before .args .ks .now))
 
 wide-requires : tie.Need-wide-requires Inv-loop μ-loop
 wide-requires c κs = search needs
 
 sink-requires : tie.Need-sink-requires Inv-loop μ-loop
-sink-requires c κs = (c .before .before .before .before .before .pre .0, kind c)
+sink-requires c κs = (c .before .before .before .before .before .before .pre .0, kind c)
 
 mul-taken : tie.Need-mul-taken Inv-loop μ-loop
 mul-taken c = omega (arith, known c .1)
@@ -56,7 +59,7 @@ element-copy-out-taken : tie.Need-element-copy-out-taken Inv-loop μ-loop
 element-copy-out-taken c = known c .1
 
 add-taken : tie.Need-add-taken Inv-loop μ-loop
-add-taken c = omega (arith, c .before .before .before .before .before .loop .inv .2 (c .before .sink .result) (known (c .before) .0) .1, length-words (c .before .before .before .before .before .before .before .args .ks .now), registered (netIn (c .before .before .before .before .before .before .before .args .t .now)) (wordsOf (c .before .before .before .before .before .before .before .args .ks .now)) (c .before .before .before .before .before .before .before .pre .1 .0) .few)
+add-taken c = omega (arith, c .before .before .before .before .before .loop .inv .2 (c .before .sink .result) (known (c .before) .0) .1, length-words (c .before .before .before .before .before .before .before .before .args .ks .now), registered (netIn (c .before .before .before .before .before .before .before .before .args .t .now)) (wordsOf (c .before .before .before .before .before .before .before .before .args .ks .now)) (c .before .before .before .before .before .before .before .before .pre .1 .0) .few)
 
 element-write-taken : tie.Need-element-write-taken Inv-loop μ-loop
 element-write-taken c = known (c .before) .1
@@ -69,12 +72,12 @@ loop-less c = search needs
 
 loop-again : tie.Need-loop-again Inv-loop μ-loop
 loop-again c =
-    let s = c .before .before .before .before .before .before .before in
+    let s = c .before .before .before .before .before .before .before .before in
     let l = c .before .before .before .before .before .loop in
     let N = netIn (s .args .t .now) in
     let K : List ℕ = wordsOf (s .args .ks .now) in
     let p : ℕ = c .before .sink .result in
-    let e : p ≡ N .sink (getD K (l .i) 0) = c .before .sink .ensures ∙ ap (N .sink) (c .before .before .wide .ensures ∙ c .before .before .before .get-word .ensures) in
+    let e : p ≡ N .sink (getD K (l .i) 0) = c .before .sink .ensures ∙ ap (N .sink) (c .before .before .wide .ensures ∙ c .before .before .before .kind .ensures) in
     let A = one-added (N .places) (l .taken) p 1 (getD (l .taken) p 0 + 1) (λ (q : ℕ). one (eqb q p)) (omega (arith, known (c .before) .1)) refl (rw (eq-eqb p p refl)) (λ q n. rw (ne-eqb q p n)) in (
       omega arith,
       A .size ∙ l .inv .1,
@@ -86,7 +89,7 @@ loop-again c =
 
 returns : tie.Need-returns Inv-loop μ-loop
 returns c =
-    let s = c .before .before .before in
+    let s = c .before .before .before .before in
     let l = c .before .loop in
     let N = netIn (s .args .t .now) in
     let K : List ℕ = wordsOf (s .args .ks .now) in
@@ -101,8 +104,9 @@ take-sinks-spec =
     (tie.spec
     Inv-loop
     μ-loop
+    objects-requires
     loop-holds
-    get-word-requires
+    kind-requires
     wide-requires
     sink-requires
     mul-taken

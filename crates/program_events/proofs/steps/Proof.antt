@@ -9,7 +9,7 @@ use lib.ListN.{length}
 use Rattle.words.proofs.Lists.{clash}
 use Rattle.net.specs.Held.{netIn}
 use Rattle.replay.specs.Register.{kindsIn}
-use Rattle.replay_objects.proofs.RecordLaws.{ready-loaded}
+use Rattle.replay_layout.proofs.RecordLaws.{ready-loaded}
 use Rattle.program_step.specs.declared.Spot.{Spot}
 use Rattle.program_step.specs.declared.Outcome.{Outcome}
 use Rattle.program_step.specs.Follows.{Follows}

@@ -10,9 +10,9 @@ use Rattle.words.specs.Lists.{pick}
 use Rattle.words.specs.Words.{wordsOf}
 use Rattle.words.proofs.Lists.{not-eqb}
 use Rattle.replay.specs.Calls.{stateAt, askCode}
-use Rattle.replay_objects.specs.Offsets.{closedAt}
+use Rattle.replay_layout.specs.Offsets.{closedAt}
 use Rattle.replay_close.specs.Answers.{askClose}
-use Rattle.replay_objects.proofs.RecordLaws.{ready-contents, ready-bytes}
+use Rattle.replay_layout.proofs.RecordLaws.{ready-contents, ready-bytes}
 use Rattle.replay.proofs.Calls.{code-is, bytes-taken, bytes-refused}
 use Rattle.replay_moves.proofs.Layouts.{closed-in, closed-read}
 use Rattle.replay_close.proofs.Sinks.{can-close, closed-numbers}

@@ -3,7 +3,7 @@ use mathlib.Core.Path.{ap₂}
 use native.Mathlib.Omega.{arith}
 use Prim.Native.Nat.{ℕ, _*_, _≤_}
 use native.Mathlib.Nat.{mul-le-mul}
-use Rattle.replay_objects.proofs.RecordLaws.{ready-loaded}
+use Rattle.replay_layout.proofs.RecordLaws.{ready-loaded}
 use Rattle.replay_counts.proofs.CountLaws.{moved-few}
 use borrow.Author.Needs.{needs}
 use Rattle.replay_counts.proofs.moved.Statement.{statement}

@@ -3,7 +3,7 @@ use mathlib.Core.Path.{_∙_}
 use native.Mathlib.Omega.{arith}
 use Rattle.words.specs.Words.{wordsOf}
 use Rattle.replay_event.specs.Answers.{Moving}
-use Rattle.replay_objects.proofs.RecordLaws.{ready-contents, ready-bytes}
+use Rattle.replay_layout.proofs.RecordLaws.{ready-contents, ready-bytes}
 use Rattle.replay.proofs.Calls.{code-is, bytes-taken}
 use Rattle.replay_event.proofs.Taken.{can-take}
 use borrow.Author.Needs.{needs}

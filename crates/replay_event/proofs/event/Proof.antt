@@ -15,7 +15,7 @@ use Rattle.replay_event.specs.declared.EventAnswer.the-variants.{Taken, 
 use Rattle.replay_event.proofs.EventAnswer.{the-type}
 use Rattle.replay.proofs.Calls.{code-is, bytes-taken, bytes-refused}
 use Rattle.replay_event.proofs.Taken.{can-take}
-use Rattle.replay_objects.proofs.RecordLaws.{ready-contents, ready-bytes}
+use Rattle.replay_layout.proofs.RecordLaws.{ready-contents, ready-bytes}
 use borrow.Author.Needs.{needs}
 use Rattle.replay_event.proofs.event.Statement.{statement}
 use Rattle.replay_event.proofs.event.Tie as tie

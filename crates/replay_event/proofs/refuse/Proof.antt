@@ -11,7 +11,7 @@ use Rattle.words.proofs.Words.{length-words}
 use Rattle.words.proofs.Lists.{not-eqb}
 use Rattle.net.specs.Held.{netIn}
 use Rattle.replay.specs.Calls.{stateAt}
-use Rattle.replay_objects.specs.Offsets.{closedAt}
+use Rattle.replay_layout.specs.Offsets.{closedAt}
 use Rattle.replay_moves.proofs.Layouts.{words-few, closed-in, closed-read}
 use Rattle.replay_event.proofs.Asked.{count-in, events-read}
 use borrow.Author.Needs.{needs}

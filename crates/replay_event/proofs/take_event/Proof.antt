@@ -5,7 +5,7 @@ use Prim.Native.Nat.{ℕ}
 use native.Mathlib.Omega.{arith}
 use Rattle.words.specs.Words.{wordsOf}
 use Rattle.replay.specs.State.{bump}
-use Rattle.replay_objects.specs.Offsets.{eventsAt, firedAt}
+use Rattle.replay_layout.specs.Offsets.{eventsAt, firedAt}
 use Rattle.replay_moves.proofs.Layouts.{counts-few}
 use Rattle.replay_event.proofs.Taken.{can-events, can-fired, event-counted}
 use borrow.Author.Needs.{needs}

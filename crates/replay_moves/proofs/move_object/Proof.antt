@@ -6,7 +6,7 @@ use lib.ListN.{getD, length-set}
 use lib.Dec.{eqb}
 use Rattle.words.specs.Lists.{pick}
 use Rattle.words.specs.Words.{wordsOf}
-use Rattle.replay_objects.specs.Offsets.{placeAt, pairAt}
+use Rattle.replay_layout.specs.Offsets.{placeAt, pairAt}
 use Rattle.replay_moves.specs.Moves.{jumpsTo, goWords, CanAdd}
 use borrow.Author.Needs.{needs}
 use Rattle.replay_moves.proofs.move_object.Statement.{statement}

@@ -7,7 +7,7 @@ use Rattle.words.specs.Words.{wordsOf}
 use Rattle.words.proofs.Words.{length-words}
 use Rattle.net.specs.Held.{netIn}
 use Rattle.replay.specs.Register.{kindsIn}
-use Rattle.replay_objects.specs.declared.layout.Layout.{Layout}
+use Rattle.replay_layout.specs.declared.Layout.{Layout}
 use Rattle.replay_start.specs.Startable.{startLayout}
 use Rattle.replay_start.proofs.StartLaws.{table-few, objects-few, kinds-few, kinds-known, words-size, stored, record-is}
 use borrow.Author.Needs.{needs}

@@ -7,7 +7,7 @@ use Rattle.words.specs.Words.{wordsOf}
 use Rattle.words.proofs.Lists.{All-at, map-at}
 use Rattle.net.specs.Held.{netIn}
 use Rattle.replay.specs.Register.{kindsIn}
-use Rattle.replay_objects.specs.Offsets.{placeAt}
+use Rattle.replay_layout.specs.Offsets.{placeAt}
 use Rattle.net.proofs.HeldLaws.{held-loaded}
 use borrow.Author.Needs.{needs}
 use Rattle.replay_start.proofs.put_source.Statement.{statement}

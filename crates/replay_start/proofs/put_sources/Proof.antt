@@ -11,7 +11,7 @@ use Rattle.words.proofs.Stores.{store-more, store-end}
 use mathlib.Core.List.{map}
 use Rattle.net.specs.Held.{netIn}
 use Rattle.replay.specs.Register.{kindsIn}
-use Rattle.replay_objects.specs.Offsets.{placeAt}
+use Rattle.replay_layout.specs.Offsets.{placeAt}
 use borrow.Author.Needs.{needs}
 use Rattle.replay_start.proofs.put_sources.Statement.{statement}
 use Rattle.replay_start.proofs.put_sources.Tie as tie

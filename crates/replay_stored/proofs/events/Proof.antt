@@ -3,7 +3,7 @@ use Prim.Native.Nat.{ℕ}
 use mathlib.Core.Path.{ap, _∙_}
 use lib.ListN.{getD}
 use Rattle.words.specs.Words.{wordsOf}
-use Rattle.replay_objects.proofs.RecordLaws.{ready-contents}
+use Rattle.replay_layout.proofs.RecordLaws.{ready-contents}
 use Rattle.replay_stored.proofs.StoredLaws.{has-events}
 use Rattle.replay_stored.proofs.events.Statement.{statement}
 use Rattle.replay_stored.proofs.events.Tie as tie

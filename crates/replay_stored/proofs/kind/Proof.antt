@@ -1,7 +1,7 @@
 -- The object's row in the register. Assumes nothing.
 use mathlib.Core.Path.{_∙_}
 use native.Mathlib.Omega.{arith}
-use Rattle.replay_objects.proofs.RecordLaws.{ready-contents}
+use Rattle.replay_layout.proofs.RecordLaws.{ready-contents}
 use Rattle.replay_stored.proofs.StoredLaws.{has-kind, kind-in}
 use borrow.Author.Needs.{needs}
 use Rattle.replay_stored.proofs.kind.Statement.{statement}

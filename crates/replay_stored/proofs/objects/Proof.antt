@@ -1,6 +1,6 @@
 -- The layout has the number of objects. Assumes nothing.
 use native.Mathlib.Omega.{arith}
-use Rattle.replay_objects.proofs.RecordLaws.{ready-contents}
+use Rattle.replay_layout.proofs.RecordLaws.{ready-contents}
 use Rattle.replay_stored.proofs.StoredLaws.{objects-are, objects-few}
 use Rattle.replay_stored.proofs.objects.Statement.{statement}
 use Rattle.replay_stored.proofs.objects.Tie as tie

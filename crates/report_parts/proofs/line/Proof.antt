@@ -4,7 +4,7 @@ use mathlib.Core.Path.{_≡_, ap, _∙_}
 use native.Mathlib.Omega.{arith}
 use Rattle.net.specs.Net.{Net}
 use Rattle.replay.specs.Calls.{netAt}
-use Rattle.replay_objects.proofs.RecordLaws.{ready-loaded}
+use Rattle.replay_layout.proofs.RecordLaws.{ready-loaded}
 use Rattle.lines.proofs.LineLaws.{same-line}
 use Rattle.report.specs.TrailLines.{jumpLineAt}
 use Rattle.report_parts.specs.Parts.{linesOn}

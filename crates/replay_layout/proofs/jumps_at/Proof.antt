@@ -1,8 +1,8 @@
 -- The second number of the activity's row. Assumes nothing.
 use mathlib.Core.Path.{refl}
 use borrow.Author.Needs.{needs}
-use Rattle.replay_objects.proofs.layout.jumps_at.Statement.{statement}
-use Rattle.replay_objects.proofs.layout.jumps_at.Tie as tie
+use Rattle.replay_layout.proofs.jumps_at.Statement.{statement}
+use Rattle.replay_layout.proofs.jumps_at.Tie as tie
 
 mul-result : tie.Need-mul-result
 mul-result c = search needs

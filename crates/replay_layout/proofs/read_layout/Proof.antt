@@ -1,9 +1,9 @@
 -- `read_layout` meets its contract: each number is the one that `layoutOf` takes from the contents. Assumes nothing.
 use mathlib.Core.Path.{refl}
 use borrow.Author.Needs.{needs}
-use Rattle.replay_objects.specs.Offsets.{layoutOf}
-use Rattle.replay_objects.proofs.layout.read_layout.Statement.{statement}
-use Rattle.replay_objects.proofs.layout.read_layout.Tie as tie
+use Rattle.replay_layout.specs.Offsets.{layoutOf}
+use Rattle.replay_layout.proofs.read_layout.Statement.{statement}
+use Rattle.replay_layout.proofs.read_layout.Tie as tie
 
 quarter-requires : tie.Need-quarter-requires
 quarter-requires c κs = search needs

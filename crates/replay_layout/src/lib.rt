@@ -1,4 +1,6 @@
-// Where the parts of a desk record stand, by the record's own contents, and the numbers of an object's rows. Each offset is worked out here alone.
+// Where the parts of a desk record stand, by the record's own contents, and the numbers of an object's rows: each offset is worked out
+// here alone. `rows` reads a register's bytes by its rows.
+// Above `replay`, whose records it reads. The calls on a trail use it, and the checkpoints and trace files its rows.
 
 use net::NetWords;
 ghost use mathlib.Core.Path.{_≡_};
@@ -8,7 +10,12 @@ ghost use Rattle.words.specs.Words.{word, wordsOf};
 ghost use Rattle.words.specs.Put.{Put};
 ghost use Rattle.net.specs.Held.{netIn, Held};
 ghost use Rattle.replay.specs.Limits.{maxWords};
-ghost use Rattle.replay_objects.specs.Offsets.{layoutOf, kindAt, placeAt, closedAt, eventsAt, closingAt, firedAt, jumpsAt, pairAt};
+ghost use Rattle.replay_layout.specs.Offsets.{layoutOf, kindAt, placeAt, closedAt, eventsAt, closingAt, firedAt, jumpsAt, pairAt};
+
+pub mod rows;
+
+// Bytes of the longest desk record.
+pub const MAX_RECORD: usize = 29844;
 
 // Where the bodies behind the table start, counted in four-byte numbers, and how many objects and places there are.
 pub struct Layout {

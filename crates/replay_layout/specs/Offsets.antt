@@ -3,7 +3,7 @@ use Prim.Native.Nat.{ℕ, _+_, _*_, _/_}
 use mathlib.Core.List.{List}
 use Rattle.words.specs.Words.{word}
 use Rattle.net.specs.Net.{Net}
-use Rattle.replay_objects.specs.declared.layout.Layout.{Layout}
+use Rattle.replay_layout.specs.declared.Layout.{Layout}
 
 -- the starts of the bodies behind the table, the number of objects, and the net's number of places
 unfoldable pub layoutOf : Net → List ℕ → Layout
