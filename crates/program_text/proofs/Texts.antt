@@ -32,8 +32,8 @@ use Rattle.trace_reader.specs.Followed.{Followed, closedAfter, final}
 use Rattle.program_events.specs.Ends.{endingAfter}
 use Rattle.program_events.specs.Window.{Begins, OfSomeFile}
 use Rattle.trace_reader.proofs.Behind.{final-behind}
-use Rattle.conform.specs.Program.{eventsText, programText}
-use Rattle.conform.specs.FromFile.{FromFile, BehindContents, BehindRegister}
+use Rattle.program_text.specs.Program.{eventsText, programText}
+use Rattle.program_text.specs.FromFile.{FromFile, BehindContents, BehindRegister}
 
 -- a file of which nothing was read, and one of which all was
 begins-none : (f : List ℕ) → Begins [] 0 f

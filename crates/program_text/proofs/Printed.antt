@@ -21,7 +21,7 @@ use Rattle.report.specs.Report.{reportOf, reportAt}
 use Rattle.report.proofs.ReportLaws.{report-agrees}
 use Rattle.trace_header.specs.Opening.{shapeTests, registerOf, traceCode}
 use Rattle.trace_reader.proofs.Runs.{plain-run}
-use Rattle.conform.specs.Program.{readIn, cameOf, eventsText, programText, PrintsPlain}
+use Rattle.program_text.specs.Program.{readIn, cameOf, eventsText, programText, PrintsPlain}
 
 module _ (table f : List ℕ) (good : loadCode table ≡ 0) (opens : traceCode (netOf table) f ≡ 0) where
   abbrev N : Net

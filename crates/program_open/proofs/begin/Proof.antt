@@ -8,11 +8,11 @@ use Rattle.replay.specs.Register.{kindsIn}
 use Rattle.replay.specs.Calls.{startRecord}
 use Rattle.replay_start.proofs.StartLaws.{table-few, objects-few, record-size}
 use Rattle.replay_start.proofs.Begun.{start-fits}
-use Rattle.conform.proofs.Opening.{started, started-follows}
-use Rattle.conform.proofs.Texts.{begun}
+use Rattle.program_open.proofs.Opening.{started, started-follows}
+use Rattle.program_text.proofs.Texts.{begun}
 use borrow.Author.Needs.{needs}
-use Rattle.conform.proofs.begin.Statement.{statement}
-use Rattle.conform.proofs.begin.Tie as tie
+use Rattle.program_open.proofs.begin.Statement.{statement}
+use Rattle.program_open.proofs.begin.Tie as tie
 
 start-requires : tie.Need-start-requires
 start-requires c κs = search needs

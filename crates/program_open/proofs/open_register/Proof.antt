@@ -5,11 +5,11 @@ use Rattle.net.specs.Net.{Net}
 use Rattle.net.specs.Table.{netOf}
 use Rattle.replay.specs.Register.{kindsIn}
 use Rattle.trace_header.specs.Opening.{openCode}
-use Rattle.conform.proofs.Opening.{register-startable}
-use Rattle.conform.proofs.Texts.{register-refused, register-taken}
+use Rattle.program_open.proofs.Opening.{register-startable}
+use Rattle.program_text.proofs.Texts.{register-refused, register-taken}
 use borrow.Author.Needs.{needs}
-use Rattle.conform.proofs.open_register.Statement.{statement}
-use Rattle.conform.proofs.open_register.Tie as tie
+use Rattle.program_open.proofs.open_register.Statement.{statement}
+use Rattle.program_open.proofs.open_register.Tie as tie
 
 opening-refusal-requires : tie.Need-opening-refusal-requires
 opening-refusal-requires c κs = search needs

@@ -1,9 +1,9 @@
 -- The first bytes are handed on. Assumes nothing.
 use lib.ListN.{take}
-use Rattle.conform.proofs.Texts.{from-file}
+use Rattle.program_text.proofs.Texts.{from-file}
 use borrow.Author.Needs.{needs}
-use Rattle.conform.proofs.read_trail.Statement.{statement}
-use Rattle.conform.proofs.read_trail.Tie as tie
+use Rattle.program_open.proofs.read_trail.Statement.{statement}
+use Rattle.program_open.proofs.read_trail.Tie as tie
 
 slice-aggregate-read-full : tie.Need-slice-aggregate-read-full
 slice-aggregate-read-full c = search needs

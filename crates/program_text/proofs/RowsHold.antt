@@ -13,8 +13,8 @@ use Rattle.report.specs.Report.{reportAt}
 use Rattle.trace_header.specs.Opening.{registerOf, traceCode}
 use Rattle.trace_reader.specs.Trace.{readFrom}
 use Rattle.trace_reader.specs.Followed.{followed, final, closedAfter}
-use Rattle.conform.specs.Program.{eventsText, programText}
-use Rattle.conform.specs.Rows.{trailOf, fourth, rows, RowsHold}
+use Rattle.program_text.specs.Program.{eventsText, programText}
+use Rattle.program_text.specs.Rows.{trailOf, fourth, rows, RowsHold}
 
 pub rows-hold : RowsHold
 unfolding rows trailOf fourth tableM loadCode marked netOf word wordsOf bytesOf bodiesFrom bodiesOf bodyOf encode wordsFrom tableIn stateIn netAt stateAt askCode askBytes startRecord decimal thousandths fitness lineOf trailLineAt placeLineAt actLineAt jumpLineAt reportAt registerOf traceCode readFrom followed final closedAfter eventsText programText

@@ -1,10 +1,10 @@
 -- Each arm by what the contents say. Assumes nothing.
 use mathlib.Core.Path.{sym, _∙_}
-use Rattle.conform.proofs.Opening.{whole-rows}
-use Rattle.conform.proofs.Texts.{contents-refused, contents-taken}
+use Rattle.program_open.proofs.Opening.{whole-rows}
+use Rattle.program_text.proofs.Texts.{contents-refused, contents-taken}
 use borrow.Author.Needs.{needs}
-use Rattle.conform.proofs.open_trail.Statement.{statement}
-use Rattle.conform.proofs.open_trail.Tie as tie
+use Rattle.program_open.proofs.open_trail.Statement.{statement}
+use Rattle.program_open.proofs.open_trail.Tie as tie
 
 read-contents-requires : tie.Need-read-contents-requires
 read-contents-requires c κs = search needs

@@ -1,10 +1,10 @@
 -- What is read first goes to the front of the buffer. Assumes nothing.
 use native.Mathlib.Omega.{arith}
 use lib.ListN.{length, take}
-use Rattle.conform.proofs.Texts.{behind-register}
+use Rattle.program_text.proofs.Texts.{behind-register}
 use borrow.Author.Needs.{needs}
-use Rattle.conform.proofs.read_events.Statement.{statement}
-use Rattle.conform.proofs.read_events.Tie as tie
+use Rattle.program_open.proofs.read_events.Statement.{statement}
+use Rattle.program_open.proofs.read_events.Tie as tie
 
 large-buffer-requires : tie.Need-large-buffer-requires
 large-buffer-requires c κs = search needs

@@ -1,10 +1,10 @@
 -- As many bytes are there as were read. Assumes nothing.
 use native.Mathlib.Omega.{arith}
 use lib.ListN.{take, length-take}
-use Rattle.conform.proofs.Texts.{behind-contents}
+use Rattle.program_text.proofs.Texts.{behind-contents}
 use borrow.Author.Needs.{needs}
-use Rattle.conform.proofs.read_register.Statement.{statement}
-use Rattle.conform.proofs.read_register.Tie as tie
+use Rattle.program_open.proofs.read_register.Statement.{statement}
+use Rattle.program_open.proofs.read_register.Tie as tie
 
 buffer-requires : tie.Need-buffer-requires
 buffer-requires c κs = search needs

@@ -7,11 +7,11 @@ use Rattle.trace_header.specs.Opening.{openCode}
 use Rattle.program_output.specs.declared.Ending.{Ending}
 use Rattle.program_output.specs.declared.Ending.the-variants.{Refused}
 use Rattle.program_output.specs.Ending.{Printable}
-use Rattle.conform.specs.FromFile.{BehindContents}
-use Rattle.conform.proofs.Texts.{register-passed}
+use Rattle.program_text.specs.FromFile.{BehindContents}
+use Rattle.program_text.proofs.Texts.{register-passed}
 use borrow.Author.Needs.{needs}
-use Rattle.conform.proofs.open_bodies.Statement.{statement}
-use Rattle.conform.proofs.open_bodies.Tie as tie
+use Rattle.program_open.proofs.open_bodies.Statement.{statement}
+use Rattle.program_open.proofs.open_bodies.Tie as tie
 
 skip-requires : tie.Need-skip-requires
 skip-requires c κs = search needs

@@ -13,7 +13,7 @@ use Rattle.program_output.specs.declared.Ending.{Ending}
 use Rattle.program_output.specs.Ending.{endingText}
 use Rattle.trace_reader.specs.Followed.{Followed}
 use Rattle.program_events.specs.Window.{Begins, OfSomeFile}
-use Rattle.conform.specs.Program.{eventsText, programText}
+use Rattle.program_text.specs.Program.{eventsText, programText}
 
 -- r, with the bytes rec that are lent for the trail, has the text for the table and a trail file that begins with the bytes
 -- `front`, and is no longer where they do not fill the room; an empty front in no room says nothing of the file

@@ -1,4 +1,3 @@
-pub mod Opening
 pub mod Texts
 pub mod RowsHold
 pub mod Printed

@@ -8,7 +8,7 @@ use Rattle.words.specs.Lists.{All}
 use Rattle.words.specs.Words.{bytesOf}
 use Rattle.net.specs.Rows.{tableM}
 use Rattle.text.specs.Text.{ascii}
-use Rattle.conform.specs.Program.{programText}
+use Rattle.program_text.specs.Program.{programText}
 
 -- a trail file of a script and two sheets: contents, register, events
 unfoldable pub trailOf : ℕ → List ℕ → List ℕ

@@ -4,8 +4,8 @@ use Prim.Native.Nat.{ℕ}
 use Rattle.words.specs.Words.{wordsOf}
 use Rattle.program_output.specs.declared.Ending.the-variants.{Refused}
 use borrow.Author.Needs.{needs}
-use Rattle.conform.proofs.pass_register.Statement.{statement}
-use Rattle.conform.proofs.pass_register.Tie as tie
+use Rattle.program_open.proofs.pass_register.Statement.{statement}
+use Rattle.program_open.proofs.pass_register.Tie as tie
 
 slice-aggregate-opening-refusal : tie.Need-slice-aggregate-opening-refusal
 slice-aggregate-opening-refusal c = search needs
