@@ -1,5 +1,5 @@
 // The tests 6 and 7 on a table's bodies in words: the number of arcs of each activity, the places of each arc.
-// Above `net`; `net_loader` asks them.
+// Above `net`; `net_refusals` asks them.
 
 use net::COUNTS;
 use net::INPUTS;

@@ -1,33 +1,29 @@
 -- Loading, step by step: what the words hold after each, and what the tests on words say of the bytes. Assumes nothing.
 use Prim.Native.Nat.{ℕ, _+_, _/_, _≤_}
-use mathlib.Core.Bool.{Bool, false}
+use mathlib.Core.Bool.{Bool}
 use mathlib.Core.Path.{_≡_, refl, sym, _∙_, subst}
 use mathlib.Core.List.{List, _++_}
 use native.Mathlib.Omega.{arith}
 use lib.ListN.{length, replicate}
 use lib.Seq.{sets}
 use borrow.Author.Tests.{eq-eqb, ne-eqb}
-use Rattle.words.specs.Lists.{any, pairUp, parts}
+use Rattle.words.specs.Lists.{pairUp, parts}
 use Rattle.words.specs.Refusals.{first}
 use Rattle.words.specs.Words.{word, bodyOf}
 use Rattle.words.proofs.Lists.{is-eq}
 use Rattle.words.proofs.Refusals.{None, none-apply, first-then, first-stays, first-le}
 use Rattle.words.proofs.Sets.{sets-all}
 use Rattle.words.proofs.Parts.{length-pairs}
-use Rattle.net.specs.Table.{badArc, shapeTests, endTests, arcTests, loadTests, loadCode}
+use Rattle.net.specs.Table.{shapeTests, endTests, arcTests, loadTests, loadCode}
 use Rattle.net.specs.Held.{endsIn, placesIn, countsIn, arcsIn, netIn, frontWords, bodyWords, indexRows, frontOver, loadedWords, afterLoad, Sized}
 use Rattle.net.specs.Ruled.{frontTests, Fronted, Ruled}
-use Rattle.net.proofs.Bodies.{Shaped, shaped}
+use Rattle.net.proofs.Bodies.{Shaped}
 use Rattle.net.proofs.BodyWords.{FitFront, FitArcs, Front, Holds, front-words, with-arcs, ends-in, places-in, counts-in, arcs-in, sized}
 use Rattle.net.proofs.Room.{fit-front, fit-arcs}
 use Rattle.net.proofs.HeldLaws.{loaded-tabled, held-sized}
 use Rattle.net.specs.Limits.{netWords}
-
--- words to which neither 3 to 6 nor 7 applies
-pub ruled-by : (w : List ℕ) → Fronted w → any (badArc (netIn w)) (pairUp (arcsIn w)) ≡ false → Ruled w
-ruled-by w F a =
-    let t = none-apply (frontTests w) (omega arith) (F .none) in
-    record { sized = F .sized; places = t .0; ends = t .1 .0; counts = t .1 .1 .0; sum = is-eq _ _ (t .1 .1 .1 .0); arcs-few = F .arcs-few; arcs = a }
+use Rattle.net_fill.proofs.Shape.{shaped-by}
+use Rattle.net_refusals.proofs.RuledBy.{ruled-by}
 
 pub code-le : (b : List ℕ) → loadCode b ≤ 9
 unfolding loadCode
@@ -74,8 +70,8 @@ module _ (b : List ℕ) (z : first (shapeTests b) ≡ 0) where
   abbrev w2 : List ℕ
   w2 = sets w1 148 D
 
-  pub shape : Shaped b
-  shape = shaped b (none-apply (shapeTests b) (omega arith) z)
+  abbrev shape : Shaped b
+  shape = shaped-by b z
 
   front : FitFront A B C
   front = fit-front b shape

@@ -1,50 +1,26 @@
 // Loading: a table file's bytes become a loaded net in words, or are refused with the first number from 1 to 9 that applies.
-// Above `net`, and `net_places`, `net_arcs` and `net_routes`, which have the tests 4 and 5, 6 and 7, 8 and 9.
+// Above `net_shape` and `net_refusals`, which have the tests 1 to 3 and 4 to 9, and `net_fill` and `net_index`, which store the
+// words.
 
-use crate::fill::copy_all;
-use crate::fill::copy_body;
-use crate::fill::put_sizes;
-use crate::index::index_arcs;
-use crate::refuse::refuse_arcs;
-use crate::refuse::refuse_front;
-use crate::shape::refuse_shape;
-use net::COUNTS;
 use net::INPUTS;
 use net::LoadAnswer;
 use net::NET_WORDS;
 use net::NetWords;
-use net::PLACES;
-use net::SOURCES;
+use net_fill::copy_all;
+use net_fill::copy_body;
+use net_fill::copy_front;
+use net_index::index_arcs;
+use net_refusals::refuse_arcs;
+use net_refusals::refuse_front;
+use net_shape::refuse_shape;
 ghost use mathlib.Core.Path.{_≡_};
 ghost use Prim.Native.Nat.{_≤_};
 ghost use lib.ListN.{length, replicate};
 ghost use Rattle.words.specs.Refusals.{first};
 ghost use Rattle.net.specs.Table.{shapeTests, loadCode};
-ghost use Rattle.net.specs.Held.{frontOver, loadedWords, afterLoad};
+ghost use Rattle.net.specs.Held.{loadedWords, afterLoad};
 ghost use Rattle.net.specs.Answer.{loadAnswerCode};
 ghost use Rattle.net.specs.Limits.{netWords};
-
-mod fill;
-mod index;
-mod refuse;
-mod shape;
-
-// The sizes and the first three bodies of a table to which none of 1 to 3 applies.
-fn copy_front(s: &[u8], w: &mut NetWords)
-    requires { ⌜ first (shapeTests (now s)) ≡ 0 ⌝ }
-    ensures { λ _. ⌜ now (w .exit) ≡ frontOver (now (s .entry)) (now (w .entry)) ⌝ }
-{
-    put_sizes(
-        w,
-        words::word_at(s, 4) / 8,
-        words::word_at(s, 12) / 4,
-        words::word_at(s, 20) / 4,
-        words::word_at(s, 28) / 8,
-    );
-    copy_body(s, 0, w, SOURCES);
-    copy_body(s, 1, w, PLACES);
-    copy_body(s, 2, w, COUNTS);
-}
 
 // A table to which none of 1 to 3 applies: 4 to 9, or 0 where it is loaded into the words, which are all zero.
 fn load_bodies(s: &[u8], t: &mut NetWords) -> u32

@@ -1,5 +1,5 @@
 // The tests 4 and 5 on a table's bodies in words: the kinds of its places, the source and the sink of each kind.
-// Above `net`; `net_loader` asks them.
+// Above `net`; `net_refusals` asks them.
 
 use net::NetWords;
 use net::PLACES;

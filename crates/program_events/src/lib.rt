@@ -1,6 +1,6 @@
 // The events of a trail, carried out one by one in a window of its file that is filled up from standard input; then the close.
 // What is given back is what is to be printed: `conform` prints it.
-// Above `program_step`, `replay_close`, `program_output` and `program_input`; `conform` uses it once a trail is started.
+// Above `program_step`, `replay_close`, `program_output` and `program_input`; `program_open` uses it once a trail is started.
 
 use net::NetWords;
 use program_input::refill;

@@ -1,5 +1,5 @@
 // Reading the table file and standard input, and whether there are arguments. A read that fails counts as the end.
-// Above the kit's `io` and `os` alone; `program_events` and `conform` use it.
+// Above the kit's `io` and `os` alone; `program_events`, `program_open` and `conform` use it.
 
 ghost use mathlib.Core.Path.{_≡_};
 ghost use Prim.Native.Nat.{_-_, _≤_};

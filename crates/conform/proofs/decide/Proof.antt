@@ -4,7 +4,7 @@ use mathlib.Core.Path.{_≡_, ap, sym, _∙_}
 use lib.ListN.{length}
 use Rattle.net.specs.Answer.{loadAnswerCode}
 use Rattle.net.proofs.HeldLaws.{loaded-tabled}
-use Rattle.conform.proofs.Texts.{load-refused}
+use Rattle.program_text.proofs.Texts.{load-refused}
 use borrow.Author.Needs.{needs}
 use Rattle.conform.proofs.decide.Statement.{statement}
 use Rattle.conform.proofs.decide.Tie as tie

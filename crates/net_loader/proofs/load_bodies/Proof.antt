@@ -9,10 +9,11 @@ use Rattle.words.specs.Words.{bodyOf}
 use Rattle.net.specs.Table.{arcTests, loadCode}
 use Rattle.net.specs.Held.{Sized, frontOver, netIn, indexRows, endsIn, placesIn, countsIn, arcsIn}
 use Rattle.net.specs.Ruled.{Fronted, Ruled, frontTests}
-use Rattle.net_loader.proofs.LoadLaws.{shape, sized-1, front-refused, arcs-room, fronted, arcs-code, ruled, loaded}
+use Rattle.net_loader.proofs.LoadLaws.{sized-1, front-refused, arcs-room, fronted, arcs-code, ruled, loaded}
 use borrow.Author.Needs.{needs}
 use Rattle.net_loader.proofs.load_bodies.Statement.{statement}
 use Rattle.net_loader.proofs.load_bodies.Tie as tie
+use Rattle.net_fill.proofs.Shape.{shaped-by}
 use Rattle.net.specs.Limits.{netWords}
 
 -- the words after the first three bodies, and after the arcs
@@ -48,7 +49,7 @@ returns c =
 copy-body-requires : tie.Need-copy-body-requires
 copy-body-requires c κs =
     let s = c .before .before .before .before .before .before .before in
-    let sh = shape (s .args .s .now) (s .pre .0) in
+    let sh = shaped-by (s .args .s .now) (s .pre .0) in
     let room = arcs-room (s .args .s .now) (s .pre .0) (no-front (c .before)) in
     omega (arith, sh .size-ge, sh .start3, sh .end)
 

@@ -1,4 +1,0 @@
-pub mod Opening
-pub mod Texts
-pub mod RowsHold
-pub mod Printed
