@@ -1,5 +1,6 @@
 // Checkpoints (desk records): what putting one down and taking one up are, the refusals 41 to 47, demand 3, and the answers.
-// Above `words`, `net` and `replay`. Of code it has only the numbers of the answers: `checkpoint_judge` and `checkpoint_restore` do the work.
+// Above `words`, `net` and `replay`. Of code it has only the numbers of the answers: `checkpoint_judge` and `checkpoint_restore`
+// do the work.
 
 ghost use mathlib.Core.Path.{_≡_};
 ghost use Rattle.checkpoint.specs.Answers.{restoreAnswerCode, restoreAnswerSecond, savedCode};

@@ -1,5 +1,6 @@
 // The tests 44 to 47 on the bytes of the bodies behind a record's table, the first that applies.
-// Above `checkpoint_positions`, `checkpoint_counts` and `checkpoint_jumps`, which have 45, 46 and 47; `checkpoint` has the definitions.
+// Above `checkpoint_positions`, `checkpoint_counts` and `checkpoint_jumps`, which have 45, 46 and 47; `checkpoint` has the
+// definitions.
 
 use checkpoint::RestoreAnswer;
 use checkpoint_counts::bad_counts;

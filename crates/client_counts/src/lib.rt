@@ -1,4 +1,5 @@
-// The whole numbers of the lines, as four-byte numbers in lent bytes. Above `replay_counts` and `report`, and beside `client_answers`.
+// The whole numbers of the lines, as four-byte numbers in lent bytes.
+// Above `replay_counts` and `report`, and beside `client_answers`.
 
 use lines::LineAnswer;
 use net::NetWords;

@@ -1,7 +1,7 @@
-// The program: it reads the route table `route.tab` and a trail from standard input, and writes the report (the sheet), or the first
-// refusal, to standard output. `program_text: programText` says which.
-// Proved of what `decide` gives back: it has the text for the table file's bytes and some trail file. That standard input is that
-// file, and that what is given back is what is written, no contract can say, and is tested.
+// The program: it reads the route table `route.tab` and a trail from standard input, and writes the report (the sheet), or the
+// first refusal, to standard output. `program_text: programText` says which. Proved of what `decide` gives back: it has the text
+// for the table file's bytes and some trail file. That standard input is that file, and that what is given back is what is
+// written, no contract can say, and is tested.
 // Above `net_loader`, `program_open`, which opens and follows the trail file, and `program_output`.
 
 use net::MAX_TABLE;

@@ -1,5 +1,5 @@
-// The three digits of a number below 1,000, from the mark-sheet printer's table of digit codes. It uses nothing; `fitness` writes FIT
-// by it.
+// The three digits of a number below 1,000, from the mark-sheet printer's table of digit codes. It uses nothing; `fitness` writes
+// FIT by it.
 
 ghost use mathlib.Core.Path.{_≡_};
 ghost use Prim.Native.Nat.{_<_};

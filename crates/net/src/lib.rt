@@ -1,6 +1,6 @@
 // The net: what it is, what loading promises of it, the answers of loading, and where its parts stand in lent words.
-// Above `words`. `net_places`, `net_arcs`, `net_routes` and `net_loader` test and fill the words, `net_lookup` reads them; the crates above use what `Held`
-// and `Loaded` promise, and never a table's bytes or the words' places.
+// Above `words`. `net_loader` fills and tests the words, with the crates below it, and `net_lookup` reads them; the crates above
+// use what `Held` and `Loaded` promise, and never a table's bytes or the words' places.
 
 ghost use mathlib.Core.Path.{_≡_};
 ghost use Rattle.net.specs.Answer.{loadAnswerCode};

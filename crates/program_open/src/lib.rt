@@ -1,7 +1,8 @@
-// The trail file on standard input, opened and followed: its contents, its register, then its events on the trail that is started.
-// Reading and deciding are apart: functions that read (`read_..`) hand the bytes to functions that decide, and these give back what
-// is to be printed. Proved of what is given back: it has the text for the table's bytes and a trail file of which the bytes handed in
-// are the front (`program_text: FromFile`). That standard input is that file no contract can say, and is tested.
+// The trail file on standard input, opened and followed: its contents, its register, then its events on the trail that is
+// started. Reading and deciding are apart: functions that read (`read_..`) hand the bytes to functions that decide, and these
+// give back what is to be printed. Proved of what is given back: it has the text for the table's bytes and a trail file of which
+// the bytes handed in are the front (`program_text: FromFile`). That standard input is that file no contract can say, and is
+// tested.
 // Above `trace_header`, `replay_start` and `program_events`; `conform` uses it once a table is loaded.
 
 use net::NetWords;

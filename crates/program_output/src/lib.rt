@@ -1,6 +1,6 @@
 // What the program prints, on standard output: the report (the sheet), or the line of a refusal.
-// Above `report_parts` and `report_lines`. `program_events`, `program_open` and `conform` say what is to be printed, and `conform` has
-// it printed.
+// Above `report_parts` and `report_lines`. `program_events`, `program_open` and `conform` say what is to be printed, and
+// `conform` has it printed.
 
 use lines::size;
 use net::NetWords;

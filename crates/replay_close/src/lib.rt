@@ -1,5 +1,6 @@
 // The close of a trail in lent bytes: refused with 31, or carried out in place.
-// Above `replay_moves`, which moves an object, and `replay`, whose definitions its contracts cite. The program and the C calls close by it.
+// Above `replay_moves`, which moves an object, and `replay`, whose definitions its contracts cite. The program and the C calls
+// close by it.
 
 use net::NetWords;
 use replay_layout::Layout;
@@ -27,8 +28,8 @@ pub enum CloseAnswer {
     AlreadyClosed,
 }
 
-// Every object that the close takes (`closers`: all of them) jumps to its sink where it is not there, and is taken from it; the jumps
-// are added once, behind the last object.
+// Every object that the close takes (`closers`: all of them) jumps to its sink where it is not there, and is taken from it; the
+// jumps are added once, behind the last object.
 fn sink_objects(rec: &mut [u8], t: &NetWords, lay: Layout)
     requires { ⌜ Ready (now t) (now rec) ⌝ }
     requires { ⌜ lay ≡ layoutOf (netIn (now t)) (now rec) ⌝ }

@@ -195,7 +195,8 @@ fn all_jumps(rec: &[u8], t: &NetWords) -> u32
     sum + last
 }
 
-// The transfers of the whole trail: MOVED of every activity, and once closed the objects that the close takes (`closers`: all of them).
+// The transfers of the whole trail: MOVED of every activity, and once closed the objects that the close takes (`closers`: all of
+// them).
 fn transfers(rec: &[u8], t: &NetWords) -> u32
     requires { ⌜ Ready (now t) (now rec) ⌝ }
     ensures { λ r. ⌜ r ≡ storedTransfers (netIn (now (t .entry))) (stateAt (now (rec .entry))) ⌝ }

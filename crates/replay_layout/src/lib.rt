@@ -1,5 +1,5 @@
-// Where the parts of a desk record stand, by the record's own contents, and the numbers of an object's rows: each offset is worked out
-// here alone. `rows` reads a register's bytes by its rows.
+// Where the parts of a desk record stand, by the record's own contents, and the numbers of an object's rows: each offset is
+// worked out here alone. `rows` reads a register's bytes by its rows.
 // Above `replay`, whose records it reads. The calls on a trail use it, and the checkpoints and trace files its rows.
 
 use net::NetWords;
@@ -51,7 +51,8 @@ pub fn read_layout(rec: &[u8], t: &NetWords) -> Layout
     }
 }
 
-// The kind of object o. Rows are read and written as numbers behind their body's start: that is worked out once for all objects of an event.
+// The kind of object o. Rows are read and written as numbers behind their body's start: that is worked out once for all objects
+// of an event.
 pub fn get_kind(rec: &[u8], lay: Layout, o: usize) -> u32
     requires { ⌜ kindAt lay o < length (wordsOf (now rec)) ⌝ }
     ensures { λ r. ⌜ r ≡ getD (wordsOf (now (rec .entry))) (kindAt lay o) 0 ⌝ }

@@ -26,7 +26,8 @@ fn two_among(kinds: &[u32; 8], m: usize) -> bool
     found
 }
 
-// 27: two of the first n kinds are the same. A call for each number of objects: its loops are of a length that is known where they are compiled.
+// 27: two of the first n kinds are the same. A call for each number of objects: its loops are of a length that is known where
+// they are compiled.
 pub fn two_of_kind(kinds: &[u32; 8], n: usize) -> bool
     requires { ⌜ (n ≤ 8) × (n ≤ length (now kinds)) ⌝ }
     ensures { λ r. ⌜ r ≡ twice (take n (now (kinds .entry))) ⌝ }

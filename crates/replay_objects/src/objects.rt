@@ -33,7 +33,8 @@ fn foreign(t: &NetWords, act: usize, k: usize) -> u32
     1
 }
 
-// 25, 26 or 0, by the objects, four bytes each: 25 of any of them before 26 of any. Where it is 0, their kinds are put into `kinds`.
+// 25, 26 or 0, by the objects, four bytes each: 25 of any of them before 26 of any. Where it is 0, their kinds are put into
+// `kinds`.
 fn take_kinds(objs: &[u8], act: usize, register: &[u8], t: &NetWords, kinds: &mut [u32; 8]) -> u32
     requires { ⌜ Held (now t) ⌝ }
     requires { ⌜ KnownKinds (netIn (now t)) (kindsIn (netIn (now t)) (now register)) ⌝ }

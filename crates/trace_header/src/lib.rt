@@ -1,5 +1,6 @@
 // Opening a trail file: what its contents say, 71, then 11 and 12 of its register.
-// Above `words`, `net` and `replay`; `trace_reader` reads the events behind the register, `program_open` opens the trail that it is given.
+// Above `words`, `net` and `replay`; `trace_reader` reads the events behind the register, `program_open` opens the trail that it
+// is given.
 
 use net::NetWords;
 use replay_objects::register::register_refusal;
@@ -44,9 +45,9 @@ pub fn read_contents(head: &[u8]) -> Contents
     }
 }
 
-// 71, 11, 12 or 0 for a file whose contents are not broken. Its register claims `claimed` bytes; `there` counts the bytes behind the
-// contents, all or up to as many as are claimed; `held` is the register's bytes, where they are all there and at most 4,096. A longer
-// register is counted and not held.
+// 71, 11, 12 or 0 for a file whose contents are not broken. Its register claims `claimed` bytes; `there` counts the bytes behind
+// the contents, all or up to as many as are claimed; `held` is the register's bytes, where they are all there and at most 4,096.
+// A longer register is counted and not held.
 pub fn opening_refusal(claimed: usize, there: usize, held: &[u8], t: &NetWords) -> u32
     requires { ⌜ Held (now t) ⌝ }
     ensures { λ r. ⌜ r ≡ openCode (netIn (now (t .entry))) claimed there (kindsIn (netIn (now (t .entry))) (now (held .entry))) ⌝ }
