@@ -10,7 +10,7 @@ use Rattle.words.specs.Words.{word, bodiesOf, endsAt}
 use Rattle.net.specs.Net.{Net}
 use Rattle.net.specs.Table.{loadCode}
 use Rattle.replay.specs.Plain.{closers, registerCode}
-use Rattle.replay.specs.Register.{rowSize}
+use Rattle.replay.specs.Register.{wholeBody, positionBytes}
 use Rattle.replay.specs.State.{State, storedConsumed, storedPair, storedJumpsIn, storedMoved, storedJumps}
 use Rattle.replay.specs.Record.{tableIn, countsSize}
 use Rattle.replay.specs.Calls.{netAt, stateAt}
@@ -25,10 +25,6 @@ tests42 b = (not (endsAt (length b) (bodiesOf 5 b)), 42) ∷ []
 
 abbrev pub tests43 : List ℕ → List (Bool × ℕ)
 tests43 b = (not (eqb (loadCode (tableIn b)) 0), 43) ∷ []
-
--- the register's body, of `size` bytes, is rows and nothing behind them
-abbrev pub wholeBody : Net → ℕ → Bool
-wholeBody N size = eqb (size % (4 * rowSize N)) 0
 
 -- the counts body, of `size` bytes with `flag` as its first number, begins with a 1
 abbrev pub beginsClosed : ℕ → ℕ → Bool
@@ -51,7 +47,7 @@ module _ (N : Net) (d : State) (size : ℕ) where
   -- 45: one row for each object; a place unknown; of another kind; an object off its sink in a closed trail
   abbrev pub tests45 : Bool → List (Bool × ℕ)
   tests45 closed =
-      (not (eqb size (4 * length (d .kinds))), 45)
+      (not (eqb size (positionBytes (length (d .kinds)))), 45)
       ∷ (anyTo (length (d .kinds)) (λ (o : ℕ). leb (N .places) (getD (d .places) o 0)), 45)
       ∷ (anyTo (length (d .kinds)) (λ (o : ℕ). not (eqb (N .kindOf (getD (d .places) o 0)) (getD (d .kinds) o 0))), 45)
       ∷ (both closed (any (λ (o : ℕ). not (eqb (getD (d .places) o 0) (N .sink (getD (d .kinds) o 0)))) (closers (d .kinds))), 45)

@@ -4,6 +4,8 @@
 use net::NetWords;
 use replay_layout::rows::kind;
 use replay_layout::rows::objects;
+use replay_layout::rows::place;
+use replay_layout::rows::position_bytes;
 use words::wide;
 ghost use mathlib.Core.List.{[]};
 ghost use mathlib.Core.Path.{_≡_};
@@ -39,17 +41,12 @@ pub fn bad_positions(ks: &[u8], ps: &[u8], t: &NetWords, closed: bool) -> bool
     ensures { λ r. ⌜ r ≡ hit (tests45 (netIn (now (t .entry))) (bodyState (netIn (now (t .entry))) (now (ks .entry)) (now (ps .entry)) [] []) (length (now (ps .entry))) closed) ⌝ }
 {
     let n = objects(ks, t);
-    if ps.len() != 4 * n {
+    if ps.len() != position_bytes(n) {
         return true;
     }
     let mut o = 0;
     while o < n {
-        if bad_position(
-            t,
-            wide(kind(ks, t, o)),
-            wide(words::get_word(ps, o)),
-            closed,
-        ) {
+        if bad_position(t, wide(kind(ks, t, o)), wide(place(ps, o)), closed) {
             return true;
         }
         o += 1;

@@ -19,11 +19,11 @@ use Rattle.net.specs.Table.{loadCode}
 use Rattle.net.specs.Held.{loadedWords, netIn}
 use Rattle.net.proofs.HeldLaws.{loaded-tabled}
 use Rattle.replay.specs.Plain.{registerCode}
-use Rattle.replay.specs.Register.{rowSize, kindsIn}
+use Rattle.replay.specs.Register.{rowSize, kindsIn, wholeBody}
 use Rattle.replay.specs.State.{stateFrom}
 use Rattle.replay.specs.Record.{countsSize, wordsFrom, tableIn, stateIn}
 use Rattle.replay.specs.Calls.{netAt, stateAt}
-use Rattle.checkpoint.specs.Restore.{wholeBody, beginsClosed, tests44, tests45, tests46, tests47, bodyTests, restoreTests, restoreCode, restoreSecond}
+use Rattle.checkpoint.specs.Restore.{beginsClosed, tests44, tests45, tests46, tests47, bodyTests, restoreTests, restoreCode, restoreSecond}
 use Rattle.checkpoint.specs.Take.{Framed, Opened, takeCode, takeBytes}
 use Rattle.checkpoint_judge.specs.Judge.{closedBy, judgeCode, judgeSecond}
 use Rattle.words.proofs.Words.{words-take, word-drop}

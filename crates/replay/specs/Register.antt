@@ -1,4 +1,5 @@
--- A register's bytes: one row for each object, in the order of their numbers. A row is the object's kind.
+-- The rows of the objects, in the order of their numbers: a register's, each the object's kind, and those of the positions, each its
+-- place. How wide a row is stands here alone.
 use Prim.Native.Nat.{ℕ, _*_, _%_}
 use mathlib.Core.Bool.{Bool}
 use mathlib.Core.List.{List}
@@ -7,17 +8,27 @@ use lib.Dec.{eqb}
 use Rattle.words.specs.Words.{wordsOf}
 use Rattle.net.specs.Net.{Net}
 
--- numbers and bytes of a row
+-- numbers and bytes of a register's row
 abbrev pub rowSize : Net → ℕ
 rowSize N = 1
 
 abbrev pub rowBytes : Net → ℕ
 rowBytes N = 4 * rowSize N
 
--- the bytes are rows and nothing behind them
+-- n bytes are whole rows; these bytes are
+abbrev pub wholeBody : Net → ℕ → Bool
+wholeBody N n = eqb (n % rowBytes N) 0
+
 abbrev pub wholeRows : Net → List ℕ → Bool
-wholeRows N s = eqb (length s % rowBytes N) 0
+wholeRows N s = wholeBody N (length s)
 
 -- the kinds of the objects
 abbrev pub kindsIn : Net → List ℕ → List ℕ
 kindsIn N s = wordsOf s
+
+-- bytes of the positions of n objects, and the places in them
+abbrev pub positionBytes : ℕ → ℕ
+positionBytes n = 4 * n
+
+abbrev pub placesIn : List ℕ → List ℕ
+placesIn s = wordsOf s

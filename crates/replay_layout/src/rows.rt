@@ -1,12 +1,13 @@
-// A register's bytes by its rows: how many, whether they are whole, and the kind in each. How wide a row is stands here alone.
+// The rows of the objects: a register's, how many, whether they are whole, and the kind in each; those of the positions, their bytes,
+// and the place in each. How wide a row is stands here alone.
 
 use net::NetWords;
 use words::get_word;
 ghost use mathlib.Core.Path.{_≡_};
-ghost use Prim.Native.Nat.{_<_};
+ghost use Prim.Native.Nat.{_≤_, _<_};
 ghost use lib.ListN.{length, getD};
 ghost use Rattle.net.specs.Held.{netIn};
-ghost use Rattle.replay.specs.Register.{kindsIn, wholeRows};
+ghost use Rattle.replay.specs.Register.{kindsIn, wholeRows, placesIn, positionBytes};
 
 // The bytes are rows and nothing behind them.
 pub fn whole(register: &[u8], t: &NetWords) -> bool
@@ -28,4 +29,20 @@ pub fn kind(register: &[u8], t: &NetWords, o: usize) -> u32
     ensures { λ r. ⌜ r ≡ getD (kindsIn (netIn (now (t .entry))) (now (register .entry))) o 0 ⌝ }
 {
     get_word(register, o)
+}
+
+// The bytes of the positions of n objects.
+pub fn position_bytes(n: usize) -> usize
+    requires { ⌜ n ≤ 1024 ⌝ }
+    ensures { λ r. ⌜ r ≡ positionBytes n ⌝ }
+{
+    4 * n
+}
+
+// The place of object o, in the positions.
+pub fn place(positions: &[u8], o: usize) -> u32
+    requires { ⌜ o < length (placesIn (now positions)) ⌝ }
+    ensures { λ r. ⌜ r ≡ getD (placesIn (now (positions .entry))) o 0 ⌝ }
+{
+    get_word(positions, o)
 }

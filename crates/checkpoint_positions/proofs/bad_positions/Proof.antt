@@ -32,32 +32,32 @@ abbrev μ-loop : tie.MeasureT-loop
 objects-requires : tie.Need-objects-requires Inv-loop μ-loop
 objects-requires c κs = search needs
 
-mul-if1 : tie.Need-mul-if1 Inv-loop μ-loop
-mul-if1 c = let s = c .before .before .before in omega (arith, c .objects .ensures, registered (netIn (s .args .t .now)) (wordsOf (s .args .ks .now)) (s .pre .1) .few)
+position-bytes-requires : tie.Need-position-bytes-requires Inv-loop μ-loop
+position-bytes-requires c κs = let s = c .before .before .before in omega (arith, c .objects .ensures, registered (netIn (s .args .t .now)) (wordsOf (s .args .ks .now)) (s .pre .1) .few)
 
 returns : tie.Need-returns Inv-loop μ-loop
 returns c =
-    let a = c .before .before .before .before .args in
+    let a = c .before .before .before .before .before .args in
     positions-size (netIn (a .t .now)) (bodyState (netIn (a .t .now)) (a .ks .now) (a .ps .now) [] []) (length (a .ps .now)) (a .closed) (λ e. c .if1 .taken (omega (arith, length-words (a .ks .now))))
 
 loop-holds : tie.Need-loop-holds Inv-loop μ-loop
 loop-holds c = (omega arith, refl)
 
 kind-requires : tie.Need-kind-requires Inv-loop μ-loop
-kind-requires c κs = omega (arith, length-words (c .before .before .before .before .before .before .args .ks .now))
+kind-requires c κs = omega (arith, length-words (c .before .before .before .before .before .before .before .args .ks .now))
 
 wide-requires : tie.Need-wide-requires Inv-loop μ-loop
 wide-requires c κs = search needs
 
-get-word-requires : tie.Need-get-word-requires Inv-loop μ-loop
-get-word-requires c κs = omega (arith, length-words (c .before .before .before .before .before .before .before .before .args .ps .now))
+place-requires : tie.Need-place-requires Inv-loop μ-loop
+place-requires c κs = omega (arith, length-words (c .before .before .before .before .before .before .before .before .before .args .ps .now))
 
 wide-requires-2 : tie.Need-wide-requires-2 Inv-loop μ-loop
 wide-requires-2 c κs = search needs
 
 bad-position-requires : tie.Need-bad-position-requires Inv-loop μ-loop
 bad-position-requires c κs =
-    let s = c .before .before .before .before .before .before .before .before .before .before in
+    let s = c .before .before .before .before .before .before .before .before .before .before .before in
     let N = netIn (s .args .t .now) in
     let K : List ℕ = wordsOf (s .args .ks .now) in
     let o : ℕ = c .before .before .before .before .before .loop .o in
@@ -65,12 +65,12 @@ bad-position-requires c κs =
 
 returns-2 : tie.Need-returns-2 Inv-loop μ-loop
 returns-2 c =
-    let s = c .before .before .before .before .before .before .before .before .before .before .before .before in
+    let s = c .before .before .before .before .before .before .before .before .before .before .before .before .before in
     let l = c .before .before .before .before .before .before .before .loop in
     let a = s .args in
     let f = bad (a .ks .now) (a .ps .now) (a .t .now) (a .closed) in
     let k : c .before .before .before .before .wide .result ≡ getD (wordsOf (a .ks .now)) (l .o) 0 = c .before .before .before .before .wide .ensures ∙ c .before .before .before .before .before .kind .ensures in
-    let p : c .before .before .wide2 .result ≡ getD (wordsOf (a .ps .now)) (l .o) 0 = c .before .before .wide2 .ensures ∙ c .before .before .before .get-word .ensures in
+    let p : c .before .before .wide2 .result ≡ getD (wordsOf (a .ps .now)) (l .o) 0 = c .before .before .wide2 .ensures ∙ c .before .before .before .place .ensures in
     anyTo-found f (length (wordsOf (a .ks .now))) (l .o) (omega (arith, length-words (a .ks .now))) (rw (← k, ← p) (sym (c .before .bad-position .ensures) ∙ c .if2 .taken)) ∙ l .inv .1
     ∙ positions-hit (netIn (a .t .now)) (bodyState (netIn (a .t .now)) (a .ks .now) (a .ps .now) [] []) (length (a .ps .now)) (a .closed) (omega (arith, length-words (a .ks .now)))
 
@@ -82,17 +82,17 @@ loop-less c = search needs
 
 loop-again : tie.Need-loop-again Inv-loop μ-loop
 loop-again c =
-    let s = c .before .before .before .before .before .before .before .before .before .before .before .before in
+    let s = c .before .before .before .before .before .before .before .before .before .before .before .before .before in
     let l = c .before .before .before .before .before .before .before .loop in
     let a = s .args in
     let f = bad (a .ks .now) (a .ps .now) (a .t .now) (a .closed) in
     let k : c .before .before .before .before .wide .result ≡ getD (wordsOf (a .ks .now)) (l .o) 0 = c .before .before .before .before .wide .ensures ∙ c .before .before .before .before .before .kind .ensures in
-    let p : c .before .before .wide2 .result ≡ getD (wordsOf (a .ps .now)) (l .o) 0 = c .before .before .wide2 .ensures ∙ c .before .before .before .get-word .ensures in
+    let p : c .before .before .wide2 .result ≡ getD (wordsOf (a .ps .now)) (l .o) 0 = c .before .before .wide2 .ensures ∙ c .before .before .before .place .ensures in
     (omega arith, anyTo-turn f (length (wordsOf (a .ks .now))) (l .o) (omega (arith, length-words (a .ks .now))) (rw (← k, ← p) (sym (c .before .bad-position .ensures) ∙ c .if2 .left)) ∙ l .inv .1)
 
 returns-3 : tie.Need-returns-3 Inv-loop μ-loop
 returns-3 c =
-    let s = c .before .before .before .before .before .before in
+    let s = c .before .before .before .before .before .before .before in
     let l = c .before .loop in
     let a = s .args in
     let f = bad (a .ks .now) (a .ps .now) (a .t .now) (a .closed) in
@@ -106,12 +106,12 @@ bad-positions-spec =
     Inv-loop
     μ-loop
     objects-requires
-    mul-if1
+    position-bytes-requires
     returns
     loop-holds
     kind-requires
     wide-requires
-    get-word-requires
+    place-requires
     wide-requires-2
     bad-position-requires
     returns-2
