@@ -1,5 +1,5 @@
 // Test 46 on the bytes of register and counts.
-// Above `net_lookup`; `checkpoint` has the definitions.
+// Above `net_lookup` and `replay_layout`, which reads rows; `checkpoint` has the definitions.
 
 use net::NetWords;
 use replay_layout::rows::objects;

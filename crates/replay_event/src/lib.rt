@@ -1,6 +1,7 @@
 // An event on a trail in lent bytes: refused with the first number from 21 to 27 that applies, or carried out in place.
 // Its objects are bytes too, four a number, as a trail file and the client have them.
-// Above `replay_moves`, which moves an object, and `replay`, whose tests it uses and whose definitions its contracts cite.
+// Above `replay_moves`, which moves an object, `replay_objects`, which tests them, and `replay`, whose definitions its contracts
+// cite.
 
 use net::NetWords;
 use replay_layout::Layout;

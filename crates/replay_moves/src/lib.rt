@@ -1,5 +1,5 @@
 // One object of an event or of the close: it is sought on a place, jumps there from any other, and is left on a place.
-// Above `replay`, whose layout it uses. `replay_event` and `replay_close` move objects by it, and share its laws.
+// Above `replay_layout`, whose offsets it uses. `replay_event` and `replay_close` move objects by it, and share its laws.
 
 use replay_layout::Layout;
 use replay_layout::get_place;

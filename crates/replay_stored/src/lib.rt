@@ -1,5 +1,5 @@
 // The numbers that a trail's record stores, each looked up by its offset.
-// Above `replay_objects`, which knows the offsets. `replay_counts` sums what it reads.
+// Above `replay_layout`, which knows the offsets. `replay_counts` sums what it reads.
 
 use net::NetWords;
 use replay_layout::closed_at;
