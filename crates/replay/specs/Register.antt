@@ -1,5 +1,5 @@
 -- The rows of the objects, in the order of their numbers: a register's, each the object's kind, and those of the positions, each its
--- place. How wide a row is stands here alone.
+-- place. How wide a row is stands here; `replay_start` knows it too, where it lays out a fresh record.
 use Prim.Native.Nat.{ℕ, _*_, _%_}
 use mathlib.Core.Bool.{Bool}
 use mathlib.Core.List.{List}

@@ -1,5 +1,5 @@
 // The rows of the objects: a register's, how many, whether they are whole, and the kind in each; those of the positions, their bytes,
-// and the place in each. How wide a row is stands here alone.
+// and the place in each. How wide a row is in a record that is there stands here alone.
 
 use net::NetWords;
 use words::get_word;
