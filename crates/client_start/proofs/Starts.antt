@@ -1,5 +1,5 @@
 -- The answer of starting, by the tests passed on the way. Assumes nothing.
-use Prim.Native.Nat.{ℕ, _+_, _*_, _%_, _≤_}
+use Prim.Native.Nat.{ℕ, _%_, _≤_}
 use mathlib.Core.Path.{_≡_, sym, _∙_}
 use mathlib.Core.Bool.{false}
 use mathlib.Core.List.{List}
@@ -10,10 +10,10 @@ use Rattle.net.specs.Table.{netOf, loadCode}
 use Rattle.net.specs.Held.{netIn}
 use Rattle.replay.specs.Plain.{registerCode}
 use Rattle.replay.specs.Register.{kindsIn, wholeRows}
-use Rattle.replay.specs.Record.{countsSize}
 use Rattle.replay.specs.Calls.{startCode, startBytes}
+use Rattle.replay_layout.specs.Fresh.{Registered, freshBytes}
 use Rattle.replay_start.specs.Startable.{Startable}
-use Rattle.replay_start.proofs.StartLaws.{table-few, objects-few, record-size}
+use Rattle.replay_start.proofs.StartLaws.{table-few, register-rows, record-size}
 use Rattle.client_answers.specs.Answers.{packed}
 use Rattle.client_calls.proofs.Numbers.{registers, start-le}
 use Rattle.client_calls.specs.Client.{beginCode, startAnswer, startLeaves}
@@ -54,10 +54,10 @@ module _ (table objects lent : List ℕ) where
       taken : registerCode (netOf table) (kindsIn (netOf table) objects) ≡ 0
       taken = registers table (kindsIn (netOf table) objects) (length lent) z
 
-      pub sizes : (length table ≤ maxTable) × (length objects ≤ 4096)
-      sizes = (table-few t table objects S taken, objects-few t table objects S taken)
+      pub sizes : (length table ≤ maxTable) × Registered (netIn t) objects
+      sizes = (table-few t table objects S taken, register-rows t table objects S taken)
 
-      module _ (m : ℕ) (e : m ≡ 40 + length table + length objects + length objects + 4 * countsSize (netIn t) + 4 * (netIn t .places * netIn t .places)) where
+      module _ (m : ℕ) (e : m ≡ freshBytes (netIn t) (length table) objects) where
         pub size-le : m ≤ maxRecord
         size-le = omega (arith, record-size t table objects S taken, start-le table (kindsIn (netOf table) objects) (S .tabled .taken) taken)
 

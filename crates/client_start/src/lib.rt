@@ -5,6 +5,7 @@ use client_answers::pack;
 use client_answers::start_code;
 use net::NET_WORDS;
 use net::NetWords;
+use replay_layout::fresh::record_bytes;
 use replay_layout::rows::whole;
 ghost use mathlib.Core.Path.{_≡_};
 ghost use lib.ListN.{length};
@@ -30,10 +31,7 @@ fn begin_rows(t: &NetWords, table: &[u8], objects: &[u8], trail: &mut [u8]) -> u
     if code != 0 {
         return pack(code, 0);
     }
-    pack(
-        0,
-        replay_start::record_bytes(t, table.len(), objects.len()) as u32,
-    )
+    pack(0, record_bytes(t, table.len(), objects) as u32)
 }
 
 // Starting with a table that is loaded.

@@ -10,6 +10,7 @@ use program_events::follow;
 use program_input::read_some;
 use program_input::skip;
 use program_output::Ending;
+use replay_layout::fresh::record_bytes;
 use trace_header::Contents;
 use trace_header::opening_refusal;
 use trace_header::read_contents;
@@ -47,7 +48,7 @@ fn begin(
     ensures printable { λ r. ⌜ Printable (now (t .entry)) (now (rec .exit)) r ⌝ }
 {
     replay_start::start(t, table, register, rec);
-    let size = replay_start::record_bytes(t, table.len(), register.len());
+    let size = record_bytes(t, table.len(), register);
     follow(&mut rec[..size], t, register, body, buf, n)
 }
 

@@ -1,5 +1,5 @@
 // Where the parts of a desk record stand, by the record's own contents, and the numbers of an object's rows: each offset is
-// worked out here alone. `rows` reads a register's bytes by its rows.
+// worked out here alone. `rows` reads a register's bytes by its rows, `fresh` lays out the record of a trail that is just started.
 // Above `replay`, whose records it reads. The calls on a trail use it, and the checkpoints and trace files its rows.
 
 use net::NetWords;
@@ -12,6 +12,7 @@ ghost use Rattle.net.specs.Held.{netIn, Held};
 ghost use Rattle.replay.specs.Limits.{maxWords};
 ghost use Rattle.replay_layout.specs.Offsets.{layoutOf, kindAt, placeAt, closedAt, eventsAt, closingAt, firedAt, jumpsAt, pairAt};
 
+pub mod fresh;
 pub mod rows;
 
 // Bytes of the longest desk record.

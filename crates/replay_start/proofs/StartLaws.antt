@@ -21,10 +21,11 @@ use Rattle.replay.specs.Plain.{registerTests, registerCode}
 use Rattle.replay.specs.State.{State, startState}
 use Rattle.replay.specs.Sound.{Sound}
 use Rattle.replay.specs.Record.{interleave, counts, countsSize, contents, recordWords}
-use Rattle.replay.specs.Register.{kindsIn}
+use Rattle.replay.specs.Register.{kindsIn, positionBytes}
 use Rattle.replay.specs.Calls.{startRecord, startCode, startBytes}
 use Rattle.replay_layout.specs.declared.Layout.{Layout}
-use Rattle.replay_start.specs.Startable.{Startable, startLayout, contentsOf}
+use Rattle.replay_layout.specs.Fresh.{Registered, freshBytes, freshLayout}
+use Rattle.replay_start.specs.Startable.{Startable, contentsOf}
 use Rattle.replay.proofs.Accepted.{registered}
 use Rattle.replay.proofs.Keep.{sound-start}
 use Rattle.replay.proofs.Encode.{laid, bytes-encode, counts-size}
@@ -77,16 +78,13 @@ module _ (t table objects : List ℕ) (S : Startable t table objects) (ok : regi
   pub table-few : length table ≤ maxTable
   table-few = table-size table (S .tabled .taken) .1
 
-  pub objects-few : length objects ≤ 4096
-  objects-few = omega (arith, rows, registered (netOf table) (kindsIn (netOf table) objects) ok .few)
-
-  pub kinds-few : length (kindsIn (netOf table) objects) ≤ 1024
-  kinds-few = registered (netOf table) (kindsIn (netOf table) objects) ok .few
+  pub register-rows : Registered (netIn t) objects
+  register-rows = record { whole = sym rows; few = registered (netOf table) (kindsIn (netOf table) objects) ok .few }
 
   pub kinds-known : All (λ (k : ℕ). k < netIn t .kinds) (kindsIn (netOf table) objects)
   kinds-known = subst (λ (N : Net). All (λ (k : ℕ). k < N .kinds) (kindsIn (netOf table) objects)) (sym (S .tabled .net)) (registered (netOf table) (kindsIn (netOf table) objects) ok .kinds)
 
-  record-size-of : length (startRecord table (kindsIn (netOf table) objects)) ≡ 40 + length table + length objects + length objects + 4 * countsSize (netOf table) + 4 * (netOf table .places * netOf table .places)
+  record-size-of : length (startRecord table (kindsIn (netOf table) objects)) ≡ freshBytes (netOf table) (length table) objects
   unfolding startRecord
   record-size-of = omega (
     arith,
@@ -98,8 +96,8 @@ module _ (t table objects : List ℕ) (S : Startable t table objects) (ok : regi
   )
 
   -- how many bytes the record takes
-  pub record-size : length (startRecord table (kindsIn (netOf table) objects)) ≡ 40 + length table + length objects + length objects + 4 * countsSize (netIn t) + 4 * (netIn t .places * netIn t .places)
-  record-size = record-size-of ∙ ap (λ (N : Net). 40 + length table + length objects + length objects + 4 * countsSize N + 4 * (N .places * N .places)) (sym (S .tabled .net))
+  pub record-size : length (startRecord table (kindsIn (netOf table) objects)) ≡ freshBytes (netIn t) (length table) objects
+  record-size = record-size-of ∙ ap (λ (N : Net). freshBytes N (length table) objects) (sym (S .tabled .net))
 
   -- and how many numbers
   pub words-size : (out : List ℕ) → length out ≡ length (startRecord table (kindsIn (netOf table) objects))
@@ -107,12 +105,13 @@ module _ (t table objects : List ℕ) (S : Startable t table objects) (ok : regi
   words-size out e = let h : length table % 4 ≡ 0 = table-size table (S .tabled .taken) .2 in omega (arith, length-words out, record-size, rows)
 
   -- the numbers that starting stores, as one list
-  module _ (w : List ℕ) (c p : ℕ) (cs : c ≡ 4 * countsSize (netIn t)) (ps : p ≡ 4 * (netIn t .places * netIn t .places))
+  module _ (w : List ℕ) (b c p : ℕ) (bs : b ≡ positionBytes (length (kindsIn (netOf table) objects))) (cs : c ≡ 4 * countsSize (netIn t)) (ps : p ≡ 4 * (netIn t .places * netIn t .places))
       (size : length w ≡ 10 + length table / 4 + length (kindsIn (netOf table) objects) + length (kindsIn (netOf table) objects) + countsSize (netIn t) + netIn t .places * netIn t .places)
-      (l : Layout) (e : l ≡ startLayout (netIn t) (length table / 4) (length (kindsIn (netOf table) objects))) where
-    heads : contentsOf (length table) (length objects) c p ≡ contents table (begun table objects)
+      (l : Layout) (e : l ≡ freshLayout (netIn t) (length table / 4) objects) where
+    heads : contentsOf (length table) (length objects) b c p ≡ contents table (begun table objects)
     heads = cc (
       rows,
+      bs,
       cs ∙ ap (λ (N : Net). 4 * countsSize N) (S .tabled .net),
       ps ∙ ap (λ (N : Net). 4 * (N .places * N .places)) (S .tabled .net),
       counts-size (netOf table) (begun table objects) sound,
@@ -124,14 +123,14 @@ module _ (t table objects : List ℕ) (S : Startable t table objects) (ok : regi
     tails = sym (rest-zeros (netOf table .acts) (netOf table .places * netOf table .places) (c / 4 + p / 4)
         (omega (arith, cs ∙ ap (λ (N : Net). 4 * countsSize N) (S .tabled .net), ps ∙ ap (λ (N : Net). 4 * (N .places * N .places)) (S .tabled .net))))
 
-    pub stored : sets (sets (sets (sets (sets w 0 (contentsOf (length table) (length objects) c p)) 10 (wordsOf table)) (l .register) (kindsIn (netOf table) objects)) (l .positions) (map (netIn t .source) (kindsIn (netOf table) objects)))
+    pub stored : sets (sets (sets (sets (sets w 0 (contentsOf (length table) (length objects) b c p)) 10 (wordsOf table)) (l .register) (kindsIn (netOf table) objects)) (l .positions) (map (netIn t .source) (kindsIn (netOf table) objects)))
         (l .counts) (replicate (c / 4 + p / 4) 0) ≡ recordWords table (begun table objects)
     stored =
         let r = ap (λ (l : Layout). l .register) e in let q = ap (λ (l : Layout). l .positions) e in let n = ap (λ (l : Layout). l .counts) e in
-        five w (contentsOf (length table) (length objects) c p) (wordsOf table) (kindsIn (netOf table) objects) (map (netIn t .source) (kindsIn (netOf table) objects)) (replicate (c / 4 + p / 4) 0)
+        five w (contentsOf (length table) (length objects) b c p) (wordsOf table) (kindsIn (netOf table) objects) (map (netIn t .source) (kindsIn (netOf table) objects)) (replicate (c / 4 + p / 4) 0)
         10 (l .register) (l .positions) (l .counts)
-        refl (omega (arith, r, length-words table)) (omega (arith, r, q)) (omega (arith, q, n, length-map (kindsIn (netOf table) objects) (netIn t .source)))
-        (omega (arith, n, length-replicate {A = ℕ} (c / 4 + p / 4) 0))
+        refl (omega (arith, r, length-words table)) (omega (arith, r, q, rows)) (omega (arith, q, n, length-map (kindsIn (netOf table) objects) (netIn t .source)))
+        (omega (arith, n, rows, length-replicate {A = ℕ} (c / 4 + p / 4) 0))
         ∙ cc (heads, tails, ap (λ (N : Net). map (N .source) (kindsIn (netOf table) objects)) (S .tabled .net))
 
   -- bytes that hold them are the record

@@ -4,11 +4,13 @@
 
 use net::NetWords;
 use replay_layout::Layout;
+use replay_layout::fresh;
 use replay_layout::put_place;
+use replay_layout::rows;
 use replay_objects::register::register_refusal;
 ghost use mathlib.Core.Path.{_≡_};
 ghost use mathlib.Core.List.{map};
-ghost use Prim.Native.Nat.{ℕ, _+_, _*_, _<_, _≤_};
+ghost use Prim.Native.Nat.{ℕ, _+_, _<_, _≤_};
 ghost use lib.ListN.{length, getD, set, replicate};
 ghost use lib.Seq.{sets};
 ghost use Rattle.words.specs.Lists.{All};
@@ -16,13 +18,11 @@ ghost use Rattle.words.specs.Words.{wordsOf};
 ghost use Rattle.net.specs.Held.{netIn, Held};
 ghost use Rattle.net.specs.Table.{netOf};
 ghost use Rattle.replay.specs.Plain.{registerCode};
-ghost use Rattle.replay.specs.Record.{countsSize};
 ghost use Rattle.replay.specs.Calls.{startRecord, startCode, startBytes};
 ghost use Rattle.replay_start.specs.StartAnswers.{startAnswerCode};
 ghost use Rattle.replay.specs.Register.{kindsIn};
 ghost use Rattle.replay_layout.specs.Offsets.{placeAt};
-ghost use Rattle.replay_start.specs.Startable.{Startable, startLayout, contentsOf};
-ghost use Rattle.net.specs.Limits.{maxTable};
+ghost use Rattle.replay_start.specs.Startable.{Startable, contentsOf};
 
 // The answer to starting. `startAnswerCode` gives document 01's number.
 pub enum StartAnswer {
@@ -33,33 +33,6 @@ pub enum StartAnswer {
     Kind,
     // 61: the lent part is shorter than the record.
     NoRoom,
-}
-
-// How many bytes the counts take.
-fn counts_bytes(t: &NetWords) -> usize
-    requires { ⌜ Held (now t) ⌝ }
-    ensures { λ r. ⌜ (r ≡ 4 * countsSize (netIn (now (t .entry)))) × (r ≤ 524) ⌝ }
-{
-    let n = net_lookup::acts(t);
-    4 * (3 + 2 * n)
-}
-
-// How many bytes the jump counts of all pairs of places take.
-fn pairs_bytes(t: &NetWords) -> usize
-    requires { ⌜ Held (now t) ⌝ }
-    ensures { λ r. ⌜ (r ≡ 4 * (netIn (now (t .entry)) .places * netIn (now (t .entry)) .places)) × (r ≤ 16384) ⌝ }
-{
-    let n = net_lookup::places(t);
-    4 * (n * n)
-}
-
-// How many bytes the record takes, by those of the table and of the register.
-pub fn record_bytes(t: &NetWords, table: usize, objects: usize) -> usize
-    requires { ⌜ Held (now t) ⌝ }
-    requires { ⌜ (table ≤ maxTable) × (objects ≤ 4096) ⌝ }
-    ensures { λ r. ⌜ r ≡ 40 + table + objects + objects + 4 * countsSize (netIn (now (t .entry))) + 4 * (netIn (now (t .entry)) .places * netIn (now (t .entry)) .places) ⌝ }
-{
-    40 + table + objects + objects + counts_bytes(t) + pairs_bytes(t)
 }
 
 // A contents pair, from number i on.
@@ -73,17 +46,24 @@ fn put_pair(out: &mut [u8], i: usize, at: usize, size: usize)
 }
 
 // The five contents pairs, by how many bytes each body takes.
-fn put_contents(out: &mut [u8], table: usize, objects: usize, counts: usize, pairs: usize)
+fn put_contents(
+    out: &mut [u8],
+    table: usize,
+    register: usize,
+    positions: usize,
+    counts: usize,
+    pairs: usize,
+)
     requires { ⌜ 10 ≤ length (wordsOf (now out)) ⌝ }
-    requires { ⌜ (table ≤ 20000) × (objects ≤ 20000) × (counts ≤ 20000) × (pairs ≤ 20000) ⌝ }
-    ensures { λ _. ⌜ wordsOf (now (out .exit)) ≡ sets (wordsOf (now (out .entry))) 0 (contentsOf table objects counts pairs) ⌝ }
+    requires { ⌜ (table ≤ 20000) × (register ≤ 20000) × (positions ≤ 20000) × (counts ≤ 20000) × (pairs ≤ 20000) ⌝ }
+    ensures { λ _. ⌜ wordsOf (now (out .exit)) ≡ sets (wordsOf (now (out .entry))) 0 (contentsOf table register positions counts pairs) ⌝ }
 {
     let kinds = 40 + table;
-    let places = kinds + objects;
-    let tail = places + objects;
+    let places = kinds + register;
+    let tail = places + positions;
     put_pair(out, 0, 40, table);
-    put_pair(out, 2, kinds, objects);
-    put_pair(out, 4, places, objects);
+    put_pair(out, 2, kinds, register);
+    put_pair(out, 4, places, positions);
     put_pair(out, 6, tail, counts);
     put_pair(out, 8, tail + counts, pairs);
 }
@@ -108,7 +88,7 @@ fn put_source(t: &NetWords, objects: &[u8], out: &mut [u8], lay: Layout, o: usiz
     requires { ⌜ (o < length (kindsIn (netIn (now t)) (now objects))) × (placeAt lay o < length (wordsOf (now out))) ⌝ }
     ensures { λ _. ⌜ wordsOf (now (out .exit)) ≡ set (wordsOf (now (out .entry))) (placeAt lay o) (getD (map (netIn (now (t .entry)) .source) (kindsIn (netIn (now (t .entry))) (now (objects .entry)))) o 0) ⌝ }
 {
-    let k = words::wide(replay_layout::rows::kind(objects, t, o));
+    let k = words::wide(rows::kind(objects, t, o));
     let q = net_lookup::source(t, k);
     put_place(out, lay, o, q as u32);
 }
@@ -120,7 +100,7 @@ fn put_sources(t: &NetWords, objects: &[u8], out: &mut [u8], lay: Layout)
     requires { ⌜ placeAt lay (length (kindsIn (netIn (now t)) (now objects))) ≤ length (wordsOf (now out)) ⌝ }
     ensures { λ _. ⌜ wordsOf (now (out .exit)) ≡ sets (wordsOf (now (out .entry))) (lay .positions) (map (netIn (now (t .entry)) .source) (kindsIn (netIn (now (t .entry))) (now (objects .entry)))) ⌝ }
 {
-    let n = replay_layout::rows::objects(objects, t);
+    let n = rows::objects(objects, t);
     let mut o = 0;
     while o < n {
         put_source(t, objects, out, lay, o);
@@ -140,23 +120,6 @@ fn put_zeros(out: &mut [u8], base: usize, n: usize)
     }
 }
 
-// Where the bodies stand, by how many numbers the table has and how many objects there are.
-fn start_layout(t: &NetWords, table: usize, n: usize) -> Layout
-    requires { ⌜ Held (now t) ⌝ }
-    requires { ⌜ (table ≤ 1176) × (n ≤ 1024) ⌝ }
-    ensures { λ r. ⌜ r ≡ startLayout (netIn (now (t .entry))) table n ⌝ }
-{
-    let counts = 10 + table + n + n;
-    Layout {
-        register: 10 + table,
-        positions: 10 + table + n,
-        counts: counts,
-        pairs: counts + counts_bytes(t) / 4,
-        objects: n,
-        places: net_lookup::places(t),
-    }
-}
-
 // The record, into bytes that have just room for it.
 fn fill(t: &NetWords, table: &[u8], objects: &[u8], out: &mut [u8])
     requires { ⌜ Startable (now t) (now table) (now objects) ⌝ }
@@ -164,10 +127,11 @@ fn fill(t: &NetWords, table: &[u8], objects: &[u8], out: &mut [u8])
     requires { ⌜ length (now out) ≡ length (startRecord (now table) (kindsIn (netIn (now t)) (now objects))) ⌝ }
     ensures { λ _. ⌜ now (out .exit) ≡ startRecord (now (table .entry)) (kindsIn (netIn (now (t .entry))) (now (objects .entry))) ⌝ }
 {
-    let counts = counts_bytes(t);
-    let pairs = pairs_bytes(t);
-    let lay = start_layout(t, table.len() / 4, replay_layout::rows::objects(objects, t));
-    put_contents(out, table.len(), objects.len(), counts, pairs);
+    let counts = fresh::counts_bytes(t);
+    let pairs = fresh::pairs_bytes(t);
+    let lay = fresh::layout(t, table.len() / 4, objects);
+    let positions = rows::position_bytes(lay.objects);
+    put_contents(out, table.len(), objects.len(), positions, counts, pairs);
     copy_words(table, out, 10);
     copy_words(objects, out, lay.register);
     put_sources(t, objects, out, lay);
@@ -181,7 +145,7 @@ fn write_start(t: &NetWords, table: &[u8], objects: &[u8], rec: &mut [u8]) -> St
     ensures { λ r. ⌜ startAnswerCode r ≡ startCode (now (table .entry)) (kindsIn (netIn (now (t .entry))) (now (objects .entry))) (length (now (rec .entry))) ⌝ }
     ensures { λ _. ⌜ now (rec .exit) ≡ startBytes (now (table .entry)) (kindsIn (netIn (now (t .entry))) (now (objects .entry))) (now (rec .entry)) ⌝ }
 {
-    let size = record_bytes(t, table.len(), objects.len());
+    let size = fresh::record_bytes(t, table.len(), objects);
     if rec.len() < size {
         return StartAnswer::NoRoom;
     }

@@ -6,7 +6,7 @@ use lib.ListN.{length, take, drop, length-take}
 use Rattle.net.specs.Table.{netOf}
 use Rattle.replay.specs.Register.{kindsIn}
 use Rattle.replay.specs.Calls.{startRecord}
-use Rattle.replay_start.proofs.StartLaws.{table-few, objects-few, record-size}
+use Rattle.replay_start.proofs.StartLaws.{table-few, register-rows, record-size}
 use Rattle.replay_start.proofs.Begun.{start-fits}
 use Rattle.program_open.proofs.Opening.{started, started-follows}
 use Rattle.program_text.proofs.Texts.{begun}
@@ -20,7 +20,7 @@ start-requires c κs = search needs
 record-bytes-requires : tie.Need-record-bytes-requires
 record-bytes-requires c κs =
     let s = c .before .before .before .before .before .before .before .before in
-    (s .pre .0 .tabled .held, (table-few (s .args .t .now) (s .args .table .now) (s .args .register .now) (s .pre .0) (s .pre .1 .0), objects-few (s .args .t .now) (s .args .table .now) (s .args .register .now) (s .pre .0) (s .pre .1 .0)))
+    (s .pre .0 .tabled .held, (table-few (s .args .t .now) (s .args .table .now) (s .args .register .now) (s .pre .0) (s .pre .1 .0), register-rows (s .args .t .now) (s .args .table .now) (s .args .register .now) (s .pre .0) (s .pre .1 .0)))
 
 -- how many bytes the record takes
 size-is : (c : tie.After-record-bytes) → c .record-bytes .result ≡ length (startRecord (c .before .before .before .before .before .before .before .before .before .args .table .now) (kindsIn (netOf (c .before .before .before .before .before .before .before .before .before .args .table .now)) (c .before .before .before .before .before .before .before .before .before .args .register .now)))

@@ -6,7 +6,7 @@ use lib.Seq.{length-take-le}
 use Rattle.net.specs.Held.{netIn}
 use Rattle.replay.specs.Register.{kindsIn}
 use Rattle.replay.specs.Calls.{startRecord}
-use Rattle.replay_start.proofs.StartLaws.{table-few, objects-few, record-size, no-room, taken}
+use Rattle.replay_start.proofs.StartLaws.{table-few, register-rows, record-size, no-room, taken}
 use borrow.Author.Needs.{needs}
 use Rattle.replay_start.proofs.write_start.Statement.{statement}
 use Rattle.replay_start.proofs.write_start.Tie as tie
@@ -15,7 +15,7 @@ record-bytes-requires : tie.Need-record-bytes-requires
 record-bytes-requires c κs =
     let a = c .before .before .before .args in
     let p = c .before .before .before .pre in
-    (p .0 .tabled .held, (table-few (a .t .now) (a .table .now) (a .objects .now) (p .0) (p .1), objects-few (a .t .now) (a .table .now) (a .objects .now) (p .0) (p .1)))
+    (p .0 .tabled .held, (table-few (a .t .now) (a .table .now) (a .objects .now) (p .0) (p .1), register-rows (a .t .now) (a .table .now) (a .objects .now) (p .0) (p .1)))
 
 returns : tie.Need-returns
 returns c =
