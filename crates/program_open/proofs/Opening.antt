@@ -1,12 +1,9 @@
 -- From the table file and the head of a trail file to a trail that is followed. Assumes nothing.
-use Prim.Native.Nat.{ℕ, _*_, _%_, _≤_}
+use Prim.Native.Nat.{ℕ, _%_, _≤_}
 use mathlib.Core.Path.{_≡_, ap, sym, subst, _∙_}
 use mathlib.Core.List.{List}
 use native.Mathlib.Omega.{arith}
 use lib.ListN.{length, take}
-use Rattle.words.specs.Words.{word}
-use Rattle.words.proofs.Lists.{is-eq}
-use Rattle.words.proofs.Refusals.{none-apply}
 use Rattle.net.specs.Net.{Net}
 use Rattle.net.specs.Table.{netOf}
 use Rattle.net.specs.Held.{netIn, Tabled}
@@ -16,21 +13,19 @@ use Rattle.replay.specs.Calls.{startRecord, startBytes}
 use Rattle.replay_start.specs.Startable.{Startable}
 use Rattle.replay_start.proofs.Begun.{ready-start, state-start, start-front, start-fits}
 use Rattle.replay_start.proofs.StartLaws.{taken}
-use Rattle.trace_header.specs.declared.Contents.the-variants.{Bodies}
-use Rattle.trace_header.specs.Opening.{contentsTests, contentsOf, openCode}
-use Rattle.trace_header.proofs.OpenLaws.{contents-bodies, not-refused}
+use Rattle.trace_header.specs.declared.Contents.{Contents}
+use Rattle.trace_header.specs.Opening.{contentsOf, openCode}
+use Rattle.trace_header.proofs.OpenLaws.{not-refused}
 use Rattle.program_step.specs.Follows.{Follows}
 use Rattle.replay.specs.Limits.{maxRecord}
-use Rattle.replay.specs.Register.{rowSize, kindsIn}
+use Rattle.replay.specs.Register.{rowBytes, kindsIn}
 
--- a register claims whole rows
-pub whole-rows : (f : List ℕ) (r e : ℕ) → contentsOf f ≡ Bodies r e → r % 4 ≡ 0
-whole-rows f r e p =
-    let q = contents-bodies f r e p in
-    ap (λ (n : ℕ). n % 4) (q .1) ∙ is-eq (word f 4 % 4) 0 (none-apply (contentsTests f) (omega arith) (q .0) .1 .1 .1 .0)
+-- what the contents say, by the table's net
+pub contents-of : (t table head : List ℕ) → Tabled t table → {r v : Contents} → r ≡ contentsOf (netIn t) head → r ≡ v → contentsOf (netOf table) head ≡ v
+contents-of t table head T e g = ap (λ (N : Net). contentsOf N head) (sym (T .net)) ∙ sym e ∙ g
 
 -- a register that is not refused
-pub register-startable : (t table register : List ℕ) (claimed there : ℕ) → Tabled t table → claimed % (4 * rowSize (netOf table)) ≡ 0 → length register ≡ there → there ≤ claimed → openCode (netIn t) claimed there (kindsIn (netIn t) register) ≡ 0
+pub register-startable : (t table register : List ℕ) (claimed there : ℕ) → Tabled t table → claimed % rowBytes (netOf table) ≡ 0 → length register ≡ there → there ≤ claimed → openCode (netIn t) claimed there (kindsIn (netIn t) register) ≡ 0
     → Startable t table register × (registerCode (netOf table) (kindsIn (netOf table) register) ≡ 0)
 register-startable t table register claimed there T m n h z =
     let r = not-refused (netIn t) claimed there (kindsIn (netIn t) register) z in (

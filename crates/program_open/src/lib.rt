@@ -11,18 +11,19 @@ use program_input::read_some;
 use program_input::skip;
 use program_output::Ending;
 use replay_layout::fresh::record_bytes;
+use replay_layout::rows::most_bytes;
 use trace_header::Contents;
 use trace_header::opening_refusal;
 use trace_header::read_contents;
 ghost use mathlib.Core.Path.{_≡_};
 ghost use mathlib.Core.List.{[]};
-ghost use Prim.Native.Nat.{_*_, _%_, _≤_};
+ghost use Prim.Native.Nat.{_%_, _≤_};
 ghost use lib.ListN.{length, take};
 ghost use Rattle.net.specs.Held.{netIn, Held, Tabled};
 ghost use Rattle.net.specs.Table.{netOf};
 ghost use Rattle.replay.specs.Plain.{registerCode};
 ghost use Rattle.replay.specs.Limits.{maxRecord};
-ghost use Rattle.replay.specs.Register.{rowSize, kindsIn};
+ghost use Rattle.replay.specs.Register.{rowBytes, maxRegister, kindsIn};
 ghost use Rattle.replay_start.specs.Startable.{Startable};
 ghost use Rattle.trace_header.specs.Opening.{openCode};
 ghost use Rattle.program_output.specs.declared.Ending.the-variants.{Refused};
@@ -75,7 +76,7 @@ fn open_register(
     rec: &mut [u8],
 ) -> Ending
     requires { ⌜ Tabled (now t) (now table) ⌝ }
-    requires { ⌜ claimed % (4 * rowSize (netOf (now table))) ≡ 0 ⌝ }
+    requires { ⌜ claimed % rowBytes (netOf (now table)) ≡ 0 ⌝ }
     requires { ⌜ length (now register) ≤ claimed ⌝ }
     requires { ⌜ maxRecord ≤ length (now rec) ⌝ }
     ensures text { λ r. ⌜ BehindContents (now (table .entry)) claimed body (now (register .entry)) claimed r (now (rec .exit)) ⌝ }
@@ -91,7 +92,7 @@ fn open_register(
 // Reads a register that can be held whole.
 fn read_register(table: &[u8], t: &NetWords, claimed: usize, body: usize, rec: &mut [u8]) -> Ending
     requires { ⌜ Tabled (now t) (now table) ⌝ }
-    requires { ⌜ (claimed % (4 * rowSize (netOf (now table))) ≡ 0) × (claimed ≤ 4096) ⌝ }
+    requires { ⌜ (claimed % rowBytes (netOf (now table)) ≡ 0) × (claimed ≤ maxRegister (netOf (now table))) ⌝ }
     requires { ⌜ maxRecord ≤ length (now rec) ⌝ }
     ensures text { λ r. ⌜ BehindContents (now (table .entry)) claimed body [] 0 r (now (rec .exit)) ⌝ }
     ensures printable { λ r. ⌜ Printable (now (t .entry)) (now (rec .exit)) r ⌝ }
@@ -101,7 +102,7 @@ fn read_register(table: &[u8], t: &NetWords, claimed: usize, body: usize, rec: &
     open_register(table, t, claimed, body, &register[..there], rec)
 }
 
-// A register of more than 4,096 bytes is counted and not held.
+// A register longer than the longest that is taken is counted and not held.
 fn pass_register(t: &NetWords, claimed: usize, there: usize) -> Ending
     requires { ⌜ Held (now t) ⌝ }
     ensures { λ r. ⌜ r ≡ Refused (openCode (netIn (now (t .entry))) claimed there []) 0 ⌝ }
@@ -115,12 +116,12 @@ fn pass_register(t: &NetWords, claimed: usize, there: usize) -> Ending
 // A trail file whose contents claim bodies of so many bytes.
 fn open_bodies(table: &[u8], t: &NetWords, claimed: usize, body: usize, rec: &mut [u8]) -> Ending
     requires { ⌜ Tabled (now t) (now table) ⌝ }
-    requires { ⌜ claimed % (4 * rowSize (netOf (now table))) ≡ 0 ⌝ }
+    requires { ⌜ claimed % rowBytes (netOf (now table)) ≡ 0 ⌝ }
     requires { ⌜ maxRecord ≤ length (now rec) ⌝ }
     ensures text { λ r. ⌜ BehindContents (now (table .entry)) claimed body [] 0 r (now (rec .exit)) ⌝ }
     ensures printable { λ r. ⌜ Printable (now (t .entry)) (now (rec .exit)) r ⌝ }
 {
-    if 4096 < claimed {
+    if most_bytes(t) < claimed {
         return pass_register(t, claimed, skip(claimed));
     }
     read_register(table, t, claimed, body, rec)
@@ -134,7 +135,7 @@ fn open_trail(table: &[u8], t: &NetWords, head: &[u8], rec: &mut [u8]) -> Ending
     ensures text { λ r. ⌜ FromFile (now (table .entry)) (now (head .entry)) 16 r (now (rec .exit)) ⌝ }
     ensures printable { λ r. ⌜ Printable (now (t .entry)) (now (rec .exit)) r ⌝ }
 {
-    match read_contents(head) {
+    match read_contents(head, t) {
         Contents::Broken => Ending::Refused {
             code: 71,
             events: 0,

@@ -37,7 +37,7 @@ module _ (table f : List ℕ) (good : loadCode table ≡ 0) (opens : traceCode (
   unfolding traceCode
   registers =
       first-zero (registerTests N ks)
-      (none-split (shapeTests f) (registerTests N ks) (none-apply (shapeTests f ++ registerTests N ks) (omega arith) opens) .1)
+      (none-split (shapeTests N f) (registerTests N ks) (none-apply (shapeTests N f ++ registerTests N ks) (omega arith) opens) .1)
 
   -- the report of the record of a plain run
   module _ (qs : List Ask) where

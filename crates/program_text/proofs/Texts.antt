@@ -17,7 +17,7 @@ use Rattle.net.specs.Held.{netIn}
 use Rattle.net.proofs.Promise.{promise}
 use Rattle.replay.specs.Calls.{startRecord}
 use Rattle.replay.specs.Ready.{Ready}
-use Rattle.replay.specs.Register.{kindsIn}
+use Rattle.replay.specs.Register.{maxRegister, kindsIn}
 use Rattle.replay_start.specs.Startable.{Startable}
 use Rattle.report_lines.specs.ReportLines.{refusedLine}
 use Rattle.report.specs.Report.{reportAt}
@@ -73,28 +73,28 @@ module _ (table : List ℕ) (good : loadCode table ≡ 0) where
   refused-text f code e m = rw (eq-eqb (loadCode table) 0 good, ← e, ne-eqb code 0 m) refl
 
   -- its contents are broken
-  pub contents-refused : (head rec : List ℕ) → contentsOf head ≡ Broken → FromFile table head 16 (Refused 71 0) rec
-  contents-refused head rec e = record { file = head; begins = begins-all head 16; text = refused-text head 71 (open-broken head N e) (λ z. omega arith) }
+  pub contents-refused : (head rec : List ℕ) → contentsOf N head ≡ Broken → FromFile table head 16 (Refused 71 0) rec
+  contents-refused head rec e = record { file = head; begins = begins-all head 16; text = refused-text head 71 (open-broken N head e) (λ z. omega arith) }
 
   -- its contents are not broken
-  pub contents-taken : (head : List ℕ) (claimed body : ℕ) (r : Ending) (rec : List ℕ) → length head ≤ 16 → contentsOf head ≡ Bodies claimed body → BehindContents table claimed body [] 0 r rec → FromFile table head 16 r rec
+  pub contents-taken : (head : List ℕ) (claimed body : ℕ) (r : Ending) (rec : List ℕ) → length head ≤ 16 → contentsOf N head ≡ Bodies claimed body → BehindContents table claimed body [] 0 r rec → FromFile table head 16 r rec
   contents-taken head claimed body r rec h e B =
-      let l : 16 ≤ length head = head-there head (contents-bodies head claimed body e .0) in
+      let l : 16 ≤ length head = head-there N head (contents-bodies N head claimed body e .0) in
       record { file = head ++ B .rest; begins = begins-more head 16 (B .rest) l; text = B .text head (omega arith) e }
 
   -- what opening goes by, where the contents are not broken
-  module _ (head rest : List ℕ) (claimed body : ℕ) (sixteen : length head ≡ 16) (bodies : contentsOf head ≡ Bodies claimed body) where
+  module _ (head rest : List ℕ) (claimed body : ℕ) (sixteen : length head ≡ 16) (bodies : contentsOf N head ≡ Bodies claimed body) where
     abbrev f : List ℕ
     f = head ++ rest
 
-    said : (first (contentsTests f) ≡ 0) × (claimed ≡ word f 4) × (body ≡ word f 12)
-    said = contents-bodies f claimed body (sym (head-enough head f (sym (take-append-le 16 head rest (omega arith)))) ∙ bodies)
+    said : (first (contentsTests N f) ≡ 0) × (claimed ≡ word f 4) × (body ≡ word f 12)
+    said = contents-bodies N f claimed body (sym (head-enough N head f (sym (take-append-le 16 head rest (omega arith)))) ∙ bodies)
 
     register-is : registerOf N f ≡ kindsIn N (take claimed rest)
     unfolding registerOf
     register-is = ap₂ (λ (n : ℕ) (l : List ℕ). kindsIn N (take n l)) (sym (said .1)) (drop-at head rest 16 sixteen)
 
-    opens : (there : ℕ) (ks : List ℕ) → (there < claimed → length rest < claimed) → (length rest < claimed → there < claimed) → (claimed ≤ there → claimed ≤ 4096 → ks ≡ kindsIn N (take claimed rest))
+    opens : (there : ℕ) (ks : List ℕ) → (there < claimed → length rest < claimed) → (length rest < claimed → there < claimed) → (claimed ≤ there → claimed ≤ maxRegister N → ks ≡ kindsIn N (take claimed rest))
         → openCode N claimed there ks ≡ traceCode N f
     opens there ks less more kinds =
         let w : claimed ≡ word f 4 = said .1 in
@@ -139,8 +139,8 @@ module _ (table : List ℕ) (good : loadCode table ≡ 0) where
               ∙ rw (t, d) refl);
         }
 
-  -- a register of more than 4,096 bytes, of which so many are there
-  pub register-passed : (claimed body there : ℕ) (rec : List ℕ) → 4096 < claimed → BehindContents table claimed body [] 0 (Refused (openCode N claimed there []) 0) rec
+  -- a register longer than the longest that is taken, of which so many bytes are there
+  pub register-passed : (claimed body there : ℕ) (rec : List ℕ) → maxRegister N < claimed → BehindContents table claimed body [] 0 (Refused (openCode N claimed there []) 0) rec
   register-passed claimed body there rec h = record {
     rest = replicate there 0;
     begins = begins-none (replicate there 0);

@@ -26,7 +26,7 @@ pub record FromFile (table front : List ℕ) (room : ℕ) (r : Ending) (rec : Li
 pub record BehindContents (table : List ℕ) (claimed body : ℕ) (front : List ℕ) (room : ℕ) (r : Ending) (rec : List ℕ) : Type 0 where
   pub rest : List ℕ
   pub begins : Begins front room rest
-  pub text : (head : List ℕ) → length head ≡ 16 → contentsOf head ≡ Bodies claimed body → endingText r rec ≡ programText table (head ++ rest)
+  pub text : (head : List ℕ) → length head ≡ 16 → contentsOf (netOf table) head ≡ Bodies claimed body → endingText r rec ≡ programText table (head ++ rest)
 
 -- the same of what stands behind a register that is taken: its events, carried out on the trail that is started
 abbrev pub BehindRegister : (table register : List ℕ) (body : ℕ) (front : List ℕ) (room : ℕ) (r : Ending) (rec : List ℕ) → Type 0

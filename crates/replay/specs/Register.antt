@@ -1,5 +1,5 @@
 -- The rows of the objects, in the order of their numbers: a register's, each the object's kind, and those of the positions, each its
--- place. How wide a row is stands here; `replay_start` knows it too, where it lays out a fresh record.
+-- place. How wide a row is stands here; in code it stands in `replay_layout`.
 use Prim.Native.Nat.{ℕ, _*_, _%_}
 use mathlib.Core.Bool.{Bool}
 use mathlib.Core.List.{List}
@@ -14,6 +14,10 @@ rowSize N = 1
 
 abbrev pub rowBytes : Net → ℕ
 rowBytes N = 4 * rowSize N
+
+-- bytes of the longest register that is taken
+abbrev pub maxRegister : Net → ℕ
+maxRegister N = 1024 * rowBytes N
 
 -- n bytes are whole rows; these bytes are
 abbrev pub wholeBody : Net → ℕ → Bool

@@ -3,6 +3,7 @@ use Prim.Native.Nat.{ℕ, _+_, _*_, _/_}
 use mathlib.Core.List.{List}
 use Rattle.words.specs.Words.{word}
 use Rattle.net.specs.Net.{Net}
+use Rattle.replay.specs.Register.{rowBytes}
 use Rattle.replay_layout.specs.declared.Layout.{Layout}
 
 -- the starts of the bodies behind the table, the number of objects, and the net's number of places
@@ -12,7 +13,7 @@ layoutOf N b = record {
   positions = word b 16 / 4;
   counts = word b 24 / 4;
   pairs = word b 32 / 4;
-  objects = word b 12 / 4;
+  objects = word b 12 / rowBytes N;
   places = N .places;
 }
 

@@ -47,7 +47,7 @@ pub fn read_layout(rec: &[u8], t: &NetWords) -> Layout
         positions: quarter(rec, 16),
         counts: quarter(rec, 24),
         pairs: quarter(rec, 32),
-        objects: quarter(rec, 12),
+        objects: rows::rows_in(words::wide(words::word_at(rec, 12)), t),
         places: net_lookup::places(t),
     }
 }

@@ -1,26 +1,47 @@
 // The rows of the objects: a register's, how many, whether they are whole, and the kind in each; those of the positions, their bytes,
-// and the place in each. How wide a row is in a record that is there stands here alone.
+// and the place in each. How wide a row is stands here, and in a record's offsets (`get_kind`, `get_place`, `put_place`) beside it.
 
 use net::NetWords;
 use words::get_word;
 ghost use mathlib.Core.Path.{_≡_};
-ghost use Prim.Native.Nat.{_≤_, _<_};
+ghost use Prim.Native.Nat.{_/_, _≤_, _<_};
 ghost use lib.ListN.{length, getD};
 ghost use Rattle.net.specs.Held.{netIn};
-ghost use Rattle.replay.specs.Register.{kindsIn, wholeRows, placesIn, positionBytes};
+ghost use Rattle.replay.specs.Register.{rowBytes, maxRegister, wholeBody, kindsIn, wholeRows, placesIn, positionBytes};
+
+// The bytes of the longest register that is taken.
+pub fn most_bytes(t: &NetWords) -> usize
+    ensures { λ r. ⌜ r ≡ maxRegister (netIn (now (t .entry))) ⌝ }
+{
+    4096
+}
+
+// So many bytes are rows and nothing behind them.
+pub fn whole_body(n: usize, t: &NetWords) -> bool
+    ensures { λ r. ⌜ r ≡ wholeBody (netIn (now (t .entry))) n ⌝ }
+{
+    n % 4 == 0
+}
 
 // The bytes are rows and nothing behind them.
 pub fn whole(register: &[u8], t: &NetWords) -> bool
     ensures { λ r. ⌜ r ≡ wholeRows (netIn (now (t .entry))) (now (register .entry)) ⌝ }
 {
-    register.len() % 4 == 0
+    whole_body(register.len(), t)
+}
+
+// How many rows so many bytes are.
+pub fn rows_in(n: usize, t: &NetWords) -> usize
+    ensures { λ r. ⌜ r ≡ n / rowBytes (netIn (now (t .entry))) ⌝ }
+{
+    n / 4
 }
 
 // How many objects a register of the net's has.
 pub fn objects(register: &[u8], t: &NetWords) -> usize
     ensures { λ r. ⌜ r ≡ length (kindsIn (netIn (now (t .entry))) (now (register .entry))) ⌝ }
 {
-    register.len() / 4
+    rows_in(register.len(), t)
 }
 
 // The kind of object o.

@@ -3,6 +3,8 @@
 // is given.
 
 use net::NetWords;
+use replay_layout::rows::most_bytes;
+use replay_layout::rows::whole_body;
 use replay_objects::register::register_refusal;
 use words::wide;
 use words::word_at;
@@ -22,9 +24,9 @@ pub enum Contents {
 }
 
 // The lengths of the two bodies, by the first 16 bytes.
-pub fn read_contents(head: &[u8]) -> Contents
-    ensures answer { λ r. ⌜ r ≡ contentsOf (now (head .entry)) ⌝ }
-    ensures code { λ r. ⌜ contentsCode r ≡ first (contentsTests (now (head .entry))) ⌝ }
+pub fn read_contents(head: &[u8], t: &NetWords) -> Contents
+    ensures answer { λ r. ⌜ r ≡ contentsOf (netIn (now (t .entry))) (now (head .entry)) ⌝ }
+    ensures code { λ r. ⌜ contentsCode r ≡ first (contentsTests (netIn (now (t .entry))) (now (head .entry))) ⌝ }
 {
     if head.len() < 16 {
         return Contents::Broken;
@@ -36,7 +38,7 @@ pub fn read_contents(head: &[u8]) -> Contents
     if wide(word_at(head, 8)) != 16 + register {
         return Contents::Broken;
     }
-    if register % 4 != 0 {
+    if !whole_body(register, t) {
         return Contents::Broken;
     }
     Contents::Bodies {
@@ -46,8 +48,8 @@ pub fn read_contents(head: &[u8]) -> Contents
 }
 
 // 71, 11, 12 or 0 for a file whose contents are not broken. Its register claims `claimed` bytes; `there` counts the bytes behind
-// the contents, all or up to as many as are claimed; `held` is the register's bytes, where they are all there and at most 4,096.
-// A longer register is counted and not held.
+// the contents, all or up to as many as are claimed; `held` is the register's bytes, where they are all there and at most
+// as many as the longest register has. A longer one is counted and not held.
 pub fn opening_refusal(claimed: usize, there: usize, held: &[u8], t: &NetWords) -> u32
     requires { ⌜ Held (now t) ⌝ }
     ensures { λ r. ⌜ r ≡ openCode (netIn (now (t .entry))) claimed there (kindsIn (netIn (now (t .entry))) (now (held .entry))) ⌝ }
@@ -55,7 +57,7 @@ pub fn opening_refusal(claimed: usize, there: usize, held: &[u8], t: &NetWords) 
     if there < claimed {
         return 71;
     }
-    if 4096 < claimed {
+    if most_bytes(t) < claimed {
         return 11;
     }
     register_refusal(held, t)
@@ -80,7 +82,7 @@ pub fn trace_refusal(file: &[u8], t: &NetWords) -> u32
     requires { ⌜ Held (now t) ⌝ }
     ensures { λ r. ⌜ r ≡ traceCode (netIn (now (t .entry))) (now (file .entry)) ⌝ }
 {
-    match read_contents(file) {
+    match read_contents(file, t) {
         Contents::Broken => 71,
         Contents::Bodies {
             register,

@@ -100,7 +100,7 @@ pub handed-out : (N : Net) → Loaded N → HandedOut N
 unfolding readAt
 handed-out N L ks accepted f at p =
     let from : ℕ = 16 + word f 4 + at in
-    let s = unless-event (first (shapeTests f)) (readFrom N ks accepted f from (word f 12) at) at p in
+    let s = unless-event (first (shapeTests N f)) (readFrom N ks accepted f from (word f 12) at) at p in
     subst (Handed N ks accepted (length f) from (word f 12) at) (sym (s .1))
     (handed N L ks accepted f from (word f 12) at (sym (ap (λ (a : Answer). a .found) (s .1)) ∙ p))
 
@@ -122,11 +122,11 @@ read-code N ks accepted b from body at = go (ℕ-discrete at body)
 
 pub read-at-code : (N : Net) (ks : List ℕ) (accepted : ℕ) (f : List ℕ) (at : ℕ) → foundCode (readAt N ks accepted f at .found) ≡ readAtCode N ks accepted f at
 unfolding readAt readAtCode
-read-at-code N ks accepted f at = go (ℕ-discrete (first (shapeTests f)) 0)
+read-at-code N ks accepted f at = go (ℕ-discrete (first (shapeTests N f)) 0)
   where
-    go : Dec (first (shapeTests f) ≡ 0) → foundCode (readAt N ks accepted f at .found) ≡ readAtCode N ks accepted f at
-    go (yes e) = rw (eq-eqb (first (shapeTests f)) 0 e) (read-code N ks accepted f (16 + word f 4 + at) (word f 12) at)
-    go (no m) = rw (ne-eqb (first (shapeTests f)) 0 m)
+    go : Dec (first (shapeTests N f) ≡ 0) → foundCode (readAt N ks accepted f at .found) ≡ readAtCode N ks accepted f at
+    go (yes e) = rw (eq-eqb (first (shapeTests N f)) 0 e) (read-code N ks accepted f (16 + word f 4 + at) (word f 12) at)
+    go (no m) = rw (ne-eqb (first (shapeTests N f)) 0 m)
 
 -- an answer that is a reading has the reading's number
 pub with-code : (N : Net) (ks : List ℕ) (accepted : ℕ) (b : List ℕ) (from body at : ℕ) {r : Answer}

@@ -82,16 +82,16 @@ word-small b h i = omega (arith, h i, h (i + 1), h (i + 2), h (i + 3))
 
 -- reading in a file by what its contents say
 module _ (f : List ℕ) (N : Net) (ks : List ℕ) (accepted at : ℕ) where
-  pub read-broken : contentsOf f ≡ Broken → nothing (found.Refused 71) at ≡ readAt N ks accepted f at
+  pub read-broken : contentsOf N f ≡ Broken → nothing (found.Refused 71) at ≡ readAt N ks accepted f at
   unfolding readAt
   read-broken e =
-      let c : first (contentsTests f) ≡ 71 = contents-broken f e in
-      let z : first (shapeTests f) ≡ 71 = first-stays (contentsTests f) ((ltb (length f) (16 + word f 4), 71) ∷ []) (λ q. omega arith) ∙ c in
+      let c : first (contentsTests N f) ≡ 71 = contents-broken N f e in
+      let z : first (shapeTests N f) ≡ 71 = first-stays (contentsTests N f) ((ltb (length f) (16 + word f 4), 71) ∷ []) (λ q. omega arith) ∙ c in
       rw z
 
-  pub read-whole : (r e : ℕ) → contentsOf f ≡ Bodies r e → bodyRead N ks accepted f r e at ≡ readAt N ks accepted f at
+  pub read-whole : (r e : ℕ) → contentsOf N f ≡ Bodies r e → bodyRead N ks accepted f r e at ≡ readAt N ks accepted f at
   unfolding readAt bodyRead
   read-whole r e p =
-      let q = contents-bodies f r e p in
-      let z : first (shapeTests f) ≡ first ((ltb (length f) (16 + word f 4), 71) ∷ []) = first-then (contentsTests f) ((ltb (length f) (16 + word f 4), 71) ∷ []) (q .0) (omega arith) in
+      let q = contents-bodies N f r e p in
+      let z : first (shapeTests N f) ≡ first ((ltb (length f) (16 + word f 4), 71) ∷ []) = first-then (contentsTests N f) ((ltb (length f) (16 + word f 4), 71) ∷ []) (q .0) (omega arith) in
       rw (z, q .1, q .2)

@@ -68,7 +68,7 @@ module _ (N : Net) (ks : List ℕ) (accepted : ℕ) (b : List ℕ) (from body at
 -- reading at a position of a trail file's events body: the number, and what is found
 unfoldable pub readAtCode : Net → List ℕ → ℕ → List ℕ → ℕ → ℕ
 readAtCode N ks accepted f at =
-    pick (eqb (first (shapeTests f)) 0) (readCode N ks accepted f (16 + word f 4 + at) (word f 12) at) (first (shapeTests f))
+    pick (eqb (first (shapeTests N f)) 0) (readCode N ks accepted f (16 + word f 4 + at) (word f 12) at) (first (shapeTests N f))
 
 unfoldable pub readAt : Net → List ℕ → ℕ → List ℕ → ℕ → Answer
-readAt N ks accepted f at = unless (first (shapeTests f)) (readFrom N ks accepted f (16 + word f 4 + at) (word f 12) at) at
+readAt N ks accepted f at = unless (first (shapeTests N f)) (readFrom N ks accepted f (16 + word f 4 + at) (word f 12) at) at

@@ -225,7 +225,7 @@ impl Cursor {
         ensures answer { λ r. ⌜ r ≡ readAt (netIn (now (t .entry))) (kindsIn (netIn (now (t .entry))) (now (register .entry))) accepted (now (file .entry)) (self .at) ⌝ }
         ensures code { λ r. ⌜ answers.foundCode (r .found) ≡ readAtCode (netIn (now (t .entry))) (kindsIn (netIn (now (t .entry))) (now (register .entry))) accepted (now (file .entry)) (self .at) ⌝ }
     {
-        match read_contents(file) {
+        match read_contents(file, t) {
             Contents::Broken => nothing(Found::Refused(71), self.at),
             Contents::Bodies {
                 register: claimed,

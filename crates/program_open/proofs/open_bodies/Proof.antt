@@ -13,6 +13,9 @@ use borrow.Author.Needs.{needs}
 use Rattle.program_open.proofs.open_bodies.Statement.{statement}
 use Rattle.program_open.proofs.open_bodies.Tie as tie
 
+most-bytes-requires : tie.Need-most-bytes-requires
+most-bytes-requires c κs = search needs
+
 skip-requires : tie.Need-skip-requires
 skip-requires c κs = search needs
 
@@ -21,7 +24,7 @@ pass-register-requires c κs = search needs
 
 returns : tie.Need-returns
 returns c =
-    let s = c .before .before .before .before .before in
+    let s = c .before .before .before .before .before .before in
     let p = c .pass-register in
     let e = p .ensures ∙ ap (λ (N : Net). Refused (openCode N (s .args .claimed) (c .before .skip .result) []) 0) (s .pre .0 .net) in (
       subst (λ (r : Ending). BehindContents (s .args .table .now) (s .args .claimed) (s .args .body) [] 0 r (s .args .rec .now)) (sym e)
@@ -42,6 +45,7 @@ pub open-bodies-spec : {M : Type 1} → statement M
 open-bodies-spec =
     tie.close
     (tie.spec
+    most-bytes-requires
     skip-requires
     pass-register-requires
     returns

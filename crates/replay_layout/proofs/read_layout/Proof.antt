@@ -17,15 +17,30 @@ quarter-requires-3 c κs = search needs
 quarter-requires-4 : tie.Need-quarter-requires-4
 quarter-requires-4 c κs = search needs
 
-quarter-requires-5 : tie.Need-quarter-requires-5
-quarter-requires-5 c κs = search needs
+word-at-requires : tie.Need-word-at-requires
+word-at-requires c κs = search needs
+
+wide-requires : tie.Need-wide-requires
+wide-requires c κs = search needs
+
+rows-in-requires : tie.Need-rows-in-requires
+rows-in-requires c κs = search needs
 
 places-requires : tie.Need-places-requires
 places-requires c κs = search needs
 
 returns : tie.Need-returns
 unfolding layoutOf
-returns c = rw (c .before .before .before .before .before .quarter .ensures, c .before .before .before .before .quarter2 .ensures, c .before .before .before .quarter3 .ensures, c .before .before .quarter4 .ensures, c .before .quarter5 .ensures, c .places .ensures) refl
+returns c = rw (
+  c .before .before .before .before .before .before .before .quarter .ensures,
+  c .before .before .before .before .before .before .quarter2 .ensures,
+  c .before .before .before .before .before .quarter3 .ensures,
+  c .before .before .before .before .quarter4 .ensures,
+  c .before .rows-in .ensures,
+  c .before .before .wide .ensures,
+  c .before .before .before .word-at .ensures,
+  c .places .ensures,
+) refl
 
 pub read-layout-spec : {M : Type 1} → statement M
 read-layout-spec =
@@ -35,6 +50,8 @@ read-layout-spec =
     quarter-requires-2
     quarter-requires-3
     quarter-requires-4
-    quarter-requires-5
+    word-at-requires
+    wide-requires
+    rows-in-requires
     places-requires
     returns)

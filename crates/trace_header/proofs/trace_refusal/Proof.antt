@@ -1,5 +1,6 @@
 -- Each arm by what the contents say. Assumes nothing.
 use mathlib.Core.Path.{sym, _∙_}
+use Rattle.net.specs.Held.{netIn}
 use Rattle.trace_header.proofs.OpenLaws.{contents-bodies, head-there, open-broken, open-held}
 use borrow.Author.Needs.{needs}
 use Rattle.trace_header.proofs.trace_refusal.Statement.{statement}
@@ -16,13 +17,13 @@ enum-known-register c = search needs
 
 held-refusal-requires : tie.Need-held-refusal-requires
 held-refusal-requires c κs = let s = c .before .before .before .before .before in
-    (s .pre, head-there (s .args .file .now) (contents-bodies (s .args .file .now) _ _ (sym (c .before .before .before .read-contents .ensures .0) ∙ c .before .register .given .1) .0))
+    (s .pre, head-there (netIn (s .args .t .now)) (s .args .file .now) (contents-bodies (netIn (s .args .t .now)) (s .args .file .now) _ _ (sym (c .before .before .before .read-contents .ensures .0) ∙ c .before .register .given .1) .0))
 
 returns : tie.Need-returns
-returns c = open-broken (c .before .before .before .before .args .file .now) _ (sym (c .before .before .read-contents .ensures .0) ∙ c .enum-told .given .1)
+returns c = open-broken _ (c .before .before .before .before .args .file .now) (sym (c .before .before .read-contents .ensures .0) ∙ c .enum-told .given .1)
 
 returns-2 : tie.Need-returns-2
-returns-2 c = c .held-refusal .ensures ∙ open-held (c .before .before .before .before .before .before .args .file .now) _ _ _ (sym (c .before .before .before .before .read-contents .ensures .0) ∙ c .before .before .register .given .1)
+returns-2 c = c .held-refusal .ensures ∙ open-held _ (c .before .before .before .before .before .before .args .file .now) _ _ (sym (c .before .before .before .before .read-contents .ensures .0) ∙ c .before .before .register .given .1)
 
 pub trace-refusal-spec : {M : Type 1} → statement M
 trace-refusal-spec =

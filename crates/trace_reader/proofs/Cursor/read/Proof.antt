@@ -4,6 +4,8 @@ use mathlib.Core.List.{List}
 use mathlib.Core.Path.{_≡_, sym, _∙_}
 use native.Mathlib.Omega.{arith}
 use lib.ListN.{getD}
+use Rattle.net.specs.Net.{Net}
+use Rattle.net.specs.Held.{netIn}
 use Rattle.trace_header.proofs.OpenLaws.{contents-bodies, head-there}
 use Rattle.trace_reader.specs.declared.Found.the-variants as found
 use Rattle.trace_reader.specs.Answers.{nothing}
@@ -27,10 +29,11 @@ enum-known-claimed c = search needs
 
 read-body-requires : tie.Need-read-body-requires
 read-body-requires c κs = let s = c .before .before .before .before .before .before in
+    let N : Net = netIn (s .args .t .now) in
     let f : List ℕ = s .args .file .now in
     let bytes : (i : ℕ) → getD f i 0 < 256 = λ i. omega (arith, c .before .before .before .before .before .shared-slice-known .given i) in
-    let q = contents-bodies f _ _ (sym (c .before .before .before .read-contents .ensures .0) ∙ c .before .claimed .given .1) in
-    (s .pre .0, (s .pre .1, (head-there f (q .0), omega (arith, q .1, q .2, word-small f bytes 4, word-small f bytes 12))))
+    let q = contents-bodies N f _ _ (sym (c .before .before .before .read-contents .ensures .0) ∙ c .before .claimed .given .1) in
+    (s .pre .0, (s .pre .1, (head-there N f (q .0), omega (arith, q .1, q .2, word-small f bytes 4, word-small f bytes 12))))
 
 returns : tie.Need-returns
 returns c =
