@@ -1,5 +1,5 @@
 -- Restoring (taking up) a checkpoint (desk record): the refusals 41 to 47, and the second number of 43 and 44.
-use Prim.Native.Nat.{ℕ, _*_, _%_}
+use Prim.Native.Nat.{ℕ, _*_}
 use mathlib.Core.Bool.{Bool, not}
 use mathlib.Core.List.{List, [], _∷_, _++_}
 use lib.ListN.{length, getD}

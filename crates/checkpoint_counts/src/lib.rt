@@ -1,7 +1,12 @@
 // Test 46 on the bytes of register and counts.
-// Above `net_lookup` and `replay_layout`, which reads rows; `checkpoint` has the definitions.
+// Above `net_lookup` and `replay_layout`, which reads rows and says where each count stands; `checkpoint` has the definitions.
 
 use net::NetWords;
+use replay_layout::CLOSING;
+use replay_layout::EVENTS;
+use replay_layout::FIRED;
+use replay_layout::JUMPS;
+use replay_layout::counts_bytes;
 use replay_layout::rows::objects;
 use words::wide;
 ghost use mathlib.Core.Bool.{not};
@@ -14,6 +19,7 @@ ghost use Rattle.words.specs.Lists.{either, anyTo, sumTo, both};
 ghost use Rattle.words.specs.Words.{wordsOf};
 ghost use Rattle.net.specs.Held.{netIn, Held};
 ghost use Rattle.replay.specs.Record.{countsSize};
+ghost use Rattle.replay_layout.specs.Offsets.{firedIndex, jumpsIndex};
 ghost use Rattle.checkpoint.specs.Bodies.{bodyState, hit};
 ghost use Rattle.checkpoint.specs.Restore.{tests46};
 
@@ -50,15 +56,15 @@ fn jumps_above(fired: u32, arcs: usize, jumps: u32) -> bool
 fn some_jumps_above(cs: &[u8], t: &NetWords) -> bool
     requires { ⌜ Held (now t) ⌝ }
     requires { ⌜ length (wordsOf (now cs)) ≡ countsSize (netIn (now t)) ⌝ }
-    ensures { λ r. ⌜ r ≡ anyTo (netIn (now (t .entry)) .acts) (λ (a : ℕ). ltb (getD (wordsOf (now (cs .entry))) (3 + 2 * a) 0 * length (netIn (now (t .entry)) .arcs a)) (getD (wordsOf (now (cs .entry))) (4 + 2 * a) 0)) ⌝ }
+    ensures { λ r. ⌜ r ≡ anyTo (netIn (now (t .entry)) .acts) (λ (a : ℕ). ltb (getD (wordsOf (now (cs .entry))) (firedIndex a) 0 * length (netIn (now (t .entry)) .arcs a)) (getD (wordsOf (now (cs .entry))) (jumpsIndex a) 0)) ⌝ }
 {
     let n = net_lookup::acts(t);
     let mut a = 0;
     while a < n {
         if jumps_above(
-            words::get_word(cs, 3 + 2 * a),
+            words::get_word(cs, FIRED + 2 * a),
             net_lookup::arcs(t, a),
-            words::get_word(cs, 4 + 2 * a),
+            words::get_word(cs, JUMPS + 2 * a),
         ) {
             return true;
         }
@@ -86,22 +92,22 @@ pub fn bad_counts(ks: &[u8], cs: &[u8], t: &NetWords) -> bool
     ensures { λ r. ⌜ r ≡ hit (tests46 (netIn (now (t .entry))) (bodyState (netIn (now (t .entry))) (now (ks .entry)) [] (now (cs .entry)) []) (length (now (cs .entry)))) ⌝ }
 {
     let acts = net_lookup::acts(t);
-    if cs.len() != 4 * (3 + 2 * acts) {
+    if cs.len() != counts_bytes(t) {
         return true;
     }
     let closed = words::get_word(cs, 0);
     if 1 < closed {
         return true;
     }
-    let events = words::get_word(cs, 1);
+    let events = words::get_word(cs, EVENTS);
     if 1000000 < events {
         return true;
     }
-    if sum_every(cs, 3, acts) != wide64(events) {
+    if sum_every(cs, FIRED, acts) != wide64(events) {
         return true;
     }
     if some_jumps_above(cs, t) {
         return true;
     }
-    bad_closing(closed, words::get_word(cs, 2), objects(ks, t))
+    bad_closing(closed, words::get_word(cs, CLOSING), objects(ks, t))
 }

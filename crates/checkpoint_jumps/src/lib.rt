@@ -1,10 +1,14 @@
 // Test 47 on the bytes of register, counts and jumps. Sums are of 64 bits: unchecked numbers are added exactly.
-// Above `net_lookup`, `replay_layout`, which reads rows, and `checkpoint_counts`, which sums the counts; `checkpoint` has the
+// Above `net_lookup`, `replay_layout`, which reads rows and says where each count stands, and `checkpoint_counts`, which sums the counts; `checkpoint` has the
 // definitions.
 
 use checkpoint_counts::sum_every;
 use checkpoint_counts::wide64;
 use net::NetWords;
+use replay_layout::CLOSING;
+use replay_layout::FIRED;
+use replay_layout::JUMPS;
+use replay_layout::pairs_bytes;
 use replay_layout::rows::kind;
 use replay_layout::rows::objects;
 use words::wide;
@@ -20,6 +24,7 @@ ghost use Rattle.replay.specs.Plain.{closerKinds, registerCode};
 ghost use Rattle.replay.specs.Register.{kindsIn};
 ghost use Rattle.replay.specs.State.{inputs, sunkOn, storedConsumed};
 ghost use Rattle.replay.specs.Record.{countsSize};
+ghost use Rattle.replay_layout.specs.Offsets.{firedIndex};
 ghost use Rattle.checkpoint.specs.Bodies.{bodyState, hit};
 ghost use Rattle.checkpoint.specs.Restore.{tests47};
 ghost use Rattle.checkpoint_counts.specs.Counted.{Counted};
@@ -129,13 +134,13 @@ fn take_inputs(cs: &[u8], t: &NetWords, taken: &mut [u64; 64])
     requires { ⌜ Held (now t) ⌝ }
     requires { ⌜ length (wordsOf (now cs)) ≡ countsSize (netIn (now t)) ⌝ }
     requires { ⌜ AtMost (netIn (now t) .places) 0 (now taken) ⌝ }
-    ensures { λ _. ⌜ Added (netIn (now (t .entry)) .places) (now (taken .entry)) (now (taken .exit)) (λ (q : ℕ). sumTo (netIn (now (t .entry)) .acts) (λ (a : ℕ). getD (wordsOf (now (cs .entry))) (3 + 2 * a) 0 * inputs (netIn (now (t .entry))) q a)) ⌝ }
+    ensures { λ _. ⌜ Added (netIn (now (t .entry)) .places) (now (taken .entry)) (now (taken .exit)) (λ (q : ℕ). sumTo (netIn (now (t .entry)) .acts) (λ (a : ℕ). getD (wordsOf (now (cs .entry))) (firedIndex a) 0 * inputs (netIn (now (t .entry))) q a)) ⌝ }
     ensures { λ _. ⌜ AtMost (netIn (now (t .entry)) .places) 2199023255552 (now (taken .exit)) ⌝ }
 {
     let n = net_lookup::acts(t);
     let mut a = 0;
     while a < n {
-        take_arcs(t, a, words::get_word(cs, 3 + 2 * a), taken);
+        take_arcs(t, a, words::get_word(cs, FIRED + 2 * a), taken);
         a += 1;
     }
 }
@@ -203,14 +208,14 @@ pub fn bad_jumps(ks: &[u8], cs: &[u8], js: &[u8], t: &NetWords) -> bool
     ensures { λ r. ⌜ r ≡ hit (tests47 (netIn (now (t .entry))) (bodyState (netIn (now (t .entry))) (now (ks .entry)) [] (now (cs .entry)) (now (js .entry))) (length (now (js .entry)))) ⌝ }
 {
     let n = net_lookup::places(t);
-    if js.len() != 4 * (n * n) {
+    if js.len() != pairs_bytes(t) {
         return true;
     }
     let mut into = [0u64; 64];
     if add_rows(js, t, &mut into) != 0 {
         return true;
     }
-    let jumps = sum_every(cs, 4, net_lookup::acts(t)) + wide64(words::get_word(cs, 2));
+    let jumps = sum_every(cs, JUMPS, net_lookup::acts(t)) + wide64(words::get_word(cs, CLOSING));
     if sum_row(&into, n) != jumps {
         return true;
     }

@@ -11,7 +11,7 @@ use borrow.Author.Tests.{eqb-true, eq-eqb, ne-eqb}
 use Rattle.words.specs.Lists.{pick, any, has, twice, keep}
 use Rattle.words.proofs.Lists.{clash}
 use Rattle.net.specs.Net.{Net, takes}
-use Rattle.replay.specs.Plain.{Event, Ask, Hop, jumped, hops, walked, objectKinds, leg, legs, refusal, eventOf, askEvent}
+use Rattle.replay.specs.Plain.{Event, Hop, jumped, hops, walked, objectKinds, leg, legs, refusal, eventOf, askEvent}
 use Rattle.replay.specs.State.{State, bump, tally, hopIndex, answerS, acceptS, askS}
 use Rattle.replay.specs.Record.{encode, tableIn}
 use Rattle.replay.specs.Calls.{netAt, stateAt, askCode, askBytes}

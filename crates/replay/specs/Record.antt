@@ -15,6 +15,13 @@ interleave [] ys = []
 interleave (x ∷ xs) [] = []
 interleave (x ∷ xs) (y ∷ ys) = x ∷ y ∷ interleave xs ys
 
+-- Register and positions: one row for each object, its kind; its place
+abbrev pub registerBody : State → List ℕ
+registerBody d = d .kinds
+
+abbrev pub positionsBody : State → List ℕ
+positionsBody d = d .places
+
 -- Counts: closed, accepted events, closing jumps, then one row for each activity: FIRED, JUMPS
 abbrev pub counts : State → List ℕ
 counts d = d .closed ∷ d .events ∷ d .closing ∷ interleave (d .fired) (d .jumps)
@@ -29,10 +36,10 @@ module _ (table : List ℕ) (d : State) where
   kindsAt = 40 + length table
 
   abbrev pub placesAt : ℕ
-  placesAt = kindsAt + 4 * length (d .kinds)
+  placesAt = kindsAt + 4 * length (registerBody d)
 
   abbrev pub countsAt : ℕ
-  countsAt = placesAt + 4 * length (d .places)
+  countsAt = placesAt + 4 * length (positionsBody d)
 
   abbrev pub pairsAt : ℕ
   pairsAt = countsAt + 4 * length (counts d)
@@ -42,15 +49,15 @@ module _ (table : List ℕ) (d : State) where
 
   -- the five pairs (start, length): table, register, positions, counts, jumps
   abbrev pub contents : List ℕ
-  contents = 40 ∷ length table ∷ kindsAt ∷ 4 * length (d .kinds) ∷ placesAt ∷ 4 * length (d .places) ∷ countsAt ∷ 4 * length (counts d) ∷ pairsAt ∷ 4 * length (d .pairs) ∷ []
+  contents = 40 ∷ length table ∷ kindsAt ∷ 4 * length (registerBody d) ∷ placesAt ∷ 4 * length (positionsBody d) ∷ countsAt ∷ 4 * length (counts d) ∷ pairsAt ∷ 4 * length (d .pairs) ∷ []
 
   -- the record's bytes
   unfoldable pub encode : List ℕ
-  encode = bytesOf contents ++ (table ++ (bytesOf (d .kinds) ++ (bytesOf (d .places) ++ (bytesOf (counts d) ++ bytesOf (d .pairs)))))
+  encode = bytesOf contents ++ (table ++ (bytesOf (registerBody d) ++ (bytesOf (positionsBody d) ++ (bytesOf (counts d) ++ bytesOf (d .pairs)))))
 
   -- the record as numbers, of a table of whole numbers
   abbrev pub recordWords : List ℕ
-  recordWords = contents ++ (wordsOf table ++ (d .kinds ++ (d .places ++ (counts d ++ d .pairs))))
+  recordWords = contents ++ (wordsOf table ++ (registerBody d ++ (positionsBody d ++ (counts d ++ d .pairs))))
 
 -- the n numbers from byte i on
 unfoldable pub wordsFrom : List ℕ → ℕ → ℕ → List ℕ

@@ -24,6 +24,13 @@ kindAt l o = l .register + o
 abbrev pub placeAt : Layout → ℕ → ℕ
 placeAt l o = l .positions + o
 
+-- in the counts: FIRED and JUMPS of activity a, behind closed, accepted events and closing jumps
+abbrev pub firedIndex : ℕ → ℕ
+firedIndex a = 3 + 2 * a
+
+abbrev pub jumpsIndex : ℕ → ℕ
+jumpsIndex a = 4 + 2 * a
+
 -- the counts: closed, accepted events, closing jumps, then FIRED and JUMPS of each activity
 abbrev pub closedAt : Layout → ℕ
 closedAt l = l .counts
@@ -35,10 +42,10 @@ abbrev pub closingAt : Layout → ℕ
 closingAt l = l .counts + 2
 
 abbrev pub firedAt : Layout → ℕ → ℕ
-firedAt l a = l .counts + (3 + 2 * a)
+firedAt l a = l .counts + firedIndex a
 
 abbrev pub jumpsAt : Layout → ℕ → ℕ
-jumpsAt l a = l .counts + (4 + 2 * a)
+jumpsAt l a = l .counts + jumpsIndex a
 
 -- the jump count from place x to place y
 abbrev pub pairAt : Layout → ℕ → ℕ → ℕ

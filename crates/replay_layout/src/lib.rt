@@ -4,12 +4,13 @@
 
 use net::NetWords;
 ghost use mathlib.Core.Path.{_≡_};
-ghost use Prim.Native.Nat.{_+_, _/_, _≤_, _<_};
+ghost use Prim.Native.Nat.{_+_, _*_, _/_, _≤_, _<_};
 ghost use lib.ListN.{length, getD};
 ghost use Rattle.words.specs.Words.{word, wordsOf};
 ghost use Rattle.words.specs.Put.{Put};
 ghost use Rattle.net.specs.Held.{netIn, Held};
 ghost use Rattle.replay.specs.Limits.{maxWords};
+ghost use Rattle.replay.specs.Record.{countsSize};
 ghost use Rattle.replay_layout.specs.Offsets.{layoutOf, kindAt, placeAt, closedAt, eventsAt, closingAt, firedAt, jumpsAt, pairAt};
 
 pub mod fresh;
@@ -17,6 +18,16 @@ pub mod rows;
 
 // Bytes of the longest desk record.
 pub const MAX_RECORD: usize = 29844;
+
+// Where the counts have the accepted events and the closing jumps, behind closed, and FIRED and JUMPS of the first activity; those of
+// the others follow in rows of two.
+pub const EVENTS: usize = 1;
+
+pub const CLOSING: usize = 2;
+
+pub const FIRED: usize = 3;
+
+pub const JUMPS: usize = 4;
 
 // Where the bodies behind the table start, counted in four-byte numbers, and how many objects and places there are.
 pub struct Layout {
@@ -50,6 +61,24 @@ pub fn read_layout(rec: &[u8], t: &NetWords) -> Layout
         objects: rows::rows_in(words::wide(words::word_at(rec, 12)), t),
         places: net_lookup::places(t),
     }
+}
+
+// How many bytes the counts take.
+pub fn counts_bytes(t: &NetWords) -> usize
+    requires { ⌜ Held (now t) ⌝ }
+    ensures { λ r. ⌜ (r ≡ 4 * countsSize (netIn (now (t .entry)))) × (r ≤ 524) ⌝ }
+{
+    let n = net_lookup::acts(t);
+    4 * (FIRED + 2 * n)
+}
+
+// How many bytes the jump counts of all pairs of places take.
+pub fn pairs_bytes(t: &NetWords) -> usize
+    requires { ⌜ Held (now t) ⌝ }
+    ensures { λ r. ⌜ (r ≡ 4 * (netIn (now (t .entry)) .places * netIn (now (t .entry)) .places)) × (r ≤ 16384) ⌝ }
+{
+    let n = net_lookup::places(t);
+    4 * (n * n)
 }
 
 // The kind of object o. Rows are read and written as numbers behind their body's start: that is worked out once for all objects
@@ -89,7 +118,7 @@ pub fn events_at(lay: Layout) -> usize
     requires { ⌜ eventsAt lay ≤ maxWords ⌝ }
     ensures { λ r. ⌜ r ≡ eventsAt lay ⌝ }
 {
-    lay.counts + 1
+    lay.counts + EVENTS
 }
 
 // Where the closing jumps stand.
@@ -97,7 +126,7 @@ pub fn closing_at(lay: Layout) -> usize
     requires { ⌜ closingAt lay ≤ maxWords ⌝ }
     ensures { λ r. ⌜ r ≡ closingAt lay ⌝ }
 {
-    lay.counts + 2
+    lay.counts + CLOSING
 }
 
 // Where FIRED of activity a stands.
@@ -105,7 +134,7 @@ pub fn fired_at(lay: Layout, a: usize) -> usize
     requires { ⌜ firedAt lay a ≤ maxWords ⌝ }
     ensures { λ r. ⌜ r ≡ firedAt lay a ⌝ }
 {
-    lay.counts + (3 + 2 * a)
+    lay.counts + (FIRED + 2 * a)
 }
 
 // Where JUMPS of activity a stands.
@@ -113,7 +142,7 @@ pub fn jumps_at(lay: Layout, a: usize) -> usize
     requires { ⌜ jumpsAt lay a ≤ maxWords ⌝ }
     ensures { λ r. ⌜ r ≡ jumpsAt lay a ⌝ }
 {
-    lay.counts + (4 + 2 * a)
+    lay.counts + (JUMPS + 2 * a)
 }
 
 // Where the jump count from place x to place y stands, behind the start of the pairs.

@@ -127,8 +127,8 @@ fn fill(t: &NetWords, table: &[u8], objects: &[u8], out: &mut [u8])
     requires { ⌜ length (now out) ≡ length (startRecord (now table) (kindsIn (netIn (now t)) (now objects))) ⌝ }
     ensures { λ _. ⌜ now (out .exit) ≡ startRecord (now (table .entry)) (kindsIn (netIn (now (t .entry))) (now (objects .entry))) ⌝ }
 {
-    let counts = fresh::counts_bytes(t);
-    let pairs = fresh::pairs_bytes(t);
+    let counts = replay_layout::counts_bytes(t);
+    let pairs = replay_layout::pairs_bytes(t);
     let lay = fresh::layout(t, table.len() / 4, objects);
     let positions = rows::position_bytes(lay.objects);
     put_contents(out, table.len(), objects.len(), positions, counts, pairs);

@@ -1,6 +1,6 @@
 -- The whole report (the sheet), of a plain run and of a trail's bytes. The order of the jump lines is left free by the paper: it is
 -- row by row here, and a pair without jumps writes nothing.
-use Prim.Native.Nat.{ℕ, _+_, _-_}
+use Prim.Native.Nat.{ℕ, _+_}
 use mathlib.Core.List.{List, [], _∷_, _++_}
 use lib.ListN.{length}
 use Rattle.words.specs.Lists.{upto}

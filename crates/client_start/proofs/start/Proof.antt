@@ -1,6 +1,5 @@
 -- A refused table stops the call; else its words hold its net. Assumes nothing.
 use mathlib.Core.Path.{sym, _∙_}
-use Prim.Native.Nat.{ℕ}
 use Rattle.net.proofs.HeldLaws.{loaded-tabled}
 use Rattle.client_start.proofs.Starts.{table-stops}
 use borrow.Author.Needs.{needs}

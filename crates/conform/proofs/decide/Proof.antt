@@ -1,7 +1,5 @@
 -- A table that is not refused is loaded. Assumes nothing.
-use Prim.Native.Nat.{ℕ}
-use mathlib.Core.Path.{_≡_, ap, sym, _∙_}
-use lib.ListN.{length}
+use mathlib.Core.Path.{_≡_, sym, _∙_}
 use Rattle.net.specs.Answer.{loadAnswerCode}
 use Rattle.net.proofs.HeldLaws.{loaded-tabled}
 use Rattle.program_text.proofs.Texts.{load-refused}

@@ -2,8 +2,8 @@
 use native.Mathlib.Omega.{arith}
 use Rattle.net.proofs.HeldLaws.{held-loaded}
 use borrow.Author.Needs.{needs}
-use Rattle.replay_layout.proofs.fresh.counts_bytes.Statement.{statement}
-use Rattle.replay_layout.proofs.fresh.counts_bytes.Tie as tie
+use Rattle.replay_layout.proofs.counts_bytes.Statement.{statement}
+use Rattle.replay_layout.proofs.counts_bytes.Tie as tie
 
 acts-requires : tie.Need-acts-requires
 acts-requires c κs = search needs

@@ -5,8 +5,8 @@ use native.Mathlib.Omega.{arith}
 use native.Mathlib.Nat.{mul-le-mul}
 use Rattle.net.proofs.HeldLaws.{held-loaded}
 use borrow.Author.Needs.{needs}
-use Rattle.replay_layout.proofs.fresh.pairs_bytes.Statement.{statement}
-use Rattle.replay_layout.proofs.fresh.pairs_bytes.Tie as tie
+use Rattle.replay_layout.proofs.pairs_bytes.Statement.{statement}
+use Rattle.replay_layout.proofs.pairs_bytes.Tie as tie
 
 places-requires : tie.Need-places-requires
 places-requires c κs = search needs
