@@ -25,11 +25,32 @@ use std::io::Read;
 use std::path::{Path, PathBuf};
 use std::process::{Command, Stdio};
 
+/// For measuring alone, in the archive libbench.a: takes up the trail once, applies the events of a trail file's body one
+/// after the other with the library's event function, and gives how many were accepted.
+type Events = unsafe extern "C" fn(trail: *mut u8, trail_len: usize, events: *const u8, events_len: usize) -> u64;
+
 extern "C" {
-    /// For measuring alone, in the archive libbench.a: takes up the trail once, applies the events of a trail file's body one
-    /// after the other with the library's event function, and gives how many were accepted.
-    fn conform_bench_events(trail: *mut u8, trail_len: usize, events: *const u8, events_len: usize) -> u64;
+    fn conform_bench_events_0(trail: *mut u8, trail_len: usize, events: *const u8, events_len: usize) -> u64;
+    fn conform_bench_events_8(trail: *mut u8, trail_len: usize, events: *const u8, events_len: usize) -> u64;
+    fn conform_bench_events_16(trail: *mut u8, trail_len: usize, events: *const u8, events_len: usize) -> u64;
+    fn conform_bench_events_24(trail: *mut u8, trail_len: usize, events: *const u8, events_len: usize) -> u64;
+    fn conform_bench_events_32(trail: *mut u8, trail_len: usize, events: *const u8, events_len: usize) -> u64;
+    fn conform_bench_events_40(trail: *mut u8, trail_len: usize, events: *const u8, events_len: usize) -> u64;
+    fn conform_bench_events_48(trail: *mut u8, trail_len: usize, events: *const u8, events_len: usize) -> u64;
+    fn conform_bench_events_56(trail: *mut u8, trail_len: usize, events: *const u8, events_len: usize) -> u64;
 }
+
+/// The same function, so many bytes behind the start of a line of 64 bytes.
+const PLACED: [Events; 8] = [
+    conform_bench_events_0,
+    conform_bench_events_8,
+    conform_bench_events_16,
+    conform_bench_events_24,
+    conform_bench_events_32,
+    conform_bench_events_40,
+    conform_bench_events_48,
+    conform_bench_events_56,
+];
 
 fn start(input: &Input) -> Vec<u8> {
     let mut trail = vec![0; 29_844];
@@ -146,20 +167,20 @@ fn print_row(name: &str, unit: &str, times: &[Times; 2]) {
 
 // ---------------------------------------------------------------- what is measured
 
-/// Nanoseconds an event, on a trail in memory.
+/// Nanoseconds an event, on a trail in memory; the library's function in one place after the other.
 fn events(input: &Input, repetitions: usize) -> [Times; 2] {
     let fresh = start(input);
     let (mut ours, mut theirs) = (fresh.clone(), fresh.clone());
     let body = &input.events;
     let want = input.event_count as u64;
+    let mut placed = PLACED.iter().cycle();
     let times = measure(
         repetitions,
         input.event_count,
         || {
             ours.copy_from_slice(&fresh);
-            time_of("the library", want, || unsafe {
-                conform_bench_events(ours.as_mut_ptr(), ours.len(), body.as_ptr(), body.len())
-            })
+            let run = placed.next().unwrap();
+            time_of("the library", want, || unsafe { run(ours.as_mut_ptr(), ours.len(), body.as_ptr(), body.len()) })
         },
         || {
             theirs.copy_from_slice(&fresh);
@@ -288,7 +309,7 @@ fn main() {
     }
     let program = |path: &str| fs::canonicalize(path).unwrap_or_else(|error| panic!("{path}: {error}"));
     let (library, baseline) = (program(&args[0]), program(&args[1]));
-    let repetitions = args.get(2).and_then(|word| word.parse().ok()).unwrap_or(9);
+    let repetitions = args.get(2).and_then(|word| word.parse().ok()).unwrap_or(16);
     println!("{repetitions} repetitions; median and least of library and baseline, ratio of the medians");
 
     let all_four = |name: &str, input: &Input| {
