@@ -7,7 +7,7 @@ use replay_layout::EVENTS;
 use replay_layout::FIRED;
 use replay_layout::JUMPS;
 use replay_layout::counts_bytes;
-use replay_layout::rows::objects;
+use replay_rows::objects;
 use words::wide;
 ghost use mathlib.Core.Bool.{not};
 ghost use mathlib.Core.List.{[], _∷_};

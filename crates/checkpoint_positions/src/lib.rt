@@ -2,10 +2,10 @@
 // Above `net_lookup` and `replay_layout`, which reads rows; `checkpoint` has the definitions.
 
 use net::NetWords;
-use replay_layout::rows::kind;
-use replay_layout::rows::objects;
-use replay_layout::rows::place;
-use replay_layout::rows::position_bytes;
+use replay_rows::kind;
+use replay_rows::objects;
+use replay_rows::place;
+use replay_rows::position_bytes;
 use words::wide;
 ghost use mathlib.Core.List.{[]};
 ghost use mathlib.Core.Path.{_≡_};

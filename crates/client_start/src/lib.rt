@@ -6,7 +6,7 @@ use client_answers::start_code;
 use net::NET_WORDS;
 use net::NetWords;
 use replay_layout::fresh::record_bytes;
-use replay_layout::rows::whole;
+use replay_rows::whole;
 ghost use mathlib.Core.Path.{_≡_};
 ghost use lib.ListN.{length};
 ghost use Rattle.net.specs.Held.{Tabled};

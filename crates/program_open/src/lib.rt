@@ -11,7 +11,7 @@ use program_input::read_some;
 use program_input::skip;
 use program_output::Ending;
 use replay_layout::fresh::record_bytes;
-use replay_layout::rows::most_bytes;
+use replay_rows::most_bytes;
 use trace_header::Contents;
 use trace_header::opening_refusal;
 use trace_header::read_contents;

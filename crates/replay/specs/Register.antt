@@ -1,5 +1,5 @@
 -- The rows of the objects, in the order of their numbers: a register's, each the object's kind, and those of the positions, each its
--- place. How wide a row is stands here; in code it stands in `replay_layout`.
+-- place. How wide a row is stands here; in code it stands in `replay_rows`.
 use Prim.Native.Nat.{ℕ, _*_, _%_}
 use mathlib.Core.Bool.{Bool}
 use mathlib.Core.List.{List}
@@ -26,13 +26,20 @@ wholeBody N n = eqb (n % rowBytes N) 0
 abbrev pub wholeRows : Net → List ℕ → Bool
 wholeRows N s = wholeBody N (length s)
 
+-- where object o's kind stands among a register's numbers
+abbrev pub kindIndex : Net → ℕ → ℕ
+kindIndex N o = o
+
 -- the kinds of the objects
 abbrev pub kindsIn : Net → List ℕ → List ℕ
 kindsIn N s = wordsOf s
 
--- bytes of the positions of n objects, and the places in them
+-- bytes of the positions of n objects, where object o's place stands among their numbers, and the places in them
 abbrev pub positionBytes : ℕ → ℕ
 positionBytes n = 4 * n
+
+abbrev pub placeIndex : ℕ → ℕ
+placeIndex o = o
 
 abbrev pub placesIn : List ℕ → List ℕ
 placesIn s = wordsOf s

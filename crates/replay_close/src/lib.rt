@@ -38,7 +38,7 @@ fn sink_objects(rec: &mut [u8], t: &NetWords, lay: Layout)
     let mut o = 0;
     let mut jumps = 0u32;
     while o < lay.objects {
-        let k = words::wide(get_kind(rec, lay, o));
+        let k = words::wide(get_kind(rec, t, lay, o));
         let sink = net_lookup::sink(t, k);
         jumps += move_object(rec, lay, o, sink, sink as u32);
         o += 1;

@@ -100,7 +100,7 @@ fn step_objects(rec: &mut [u8], t: &NetWords, lay: Layout, act: usize, objs: &[u
     let mut jumps = 0u32;
     while done < n {
         let o = words::wide(words::get_word(objs, done));
-        let k = words::wide(get_kind(rec, lay, o));
+        let k = words::wide(get_kind(rec, t, lay, o));
         let inp = net_lookup::input(t, act, k);
         let out = net_lookup::output(t, act, k) as u32;
         jumps += move_object(rec, lay, o, inp, out);

@@ -25,7 +25,7 @@ use Rattle.replay.specs.Limits.{maxWords}
 -- l is the layout of a record of a table and the state d, of the net N: how large the parts are, and what follows what
 pub record Placed (N : Net) (table : List ℕ) (l : Layout) (d : State) : Type 0 where
   pub register-at : 10 + length (wordsOf table) ≡ l .register
-  pub positions-at : kindAt l (l .objects) ≡ l .positions
+  pub positions-at : kindAt N l (l .objects) ≡ l .positions
   pub counts-at : placeAt l (l .objects) ≡ l .counts
   pub pairs-at : l .counts + countsSize N ≡ l .pairs
   pub places-are : l .places ≡ N .places
@@ -157,8 +157,8 @@ module _ (N : Net) (table : List ℕ) (l : Layout) (d : State) (P : Placed N tab
   record-few = omega (arith, record-size, mul-le-mul (P .places-few) (P .places-few), P .register-at, P .positions-at, P .counts-at, P .pairs-at, P .table-few, P .objects-few, P .acts-few)
 
   -- reading
-  pub get-kind : (o : ℕ) → o < l .objects → getD (recordWords table d) (kindAt l o) 0 ≡ getD (d .kinds) o 0
-  get-kind o h = at-ks table (d .kinds) (d .places) (counts d) (d .pairs) (kindAt l o) o (omega (arith, P .register-at)) (omega (arith, P .kinds-size))
+  pub get-kind : (o : ℕ) → o < l .objects → getD (recordWords table d) (kindAt N l o) 0 ≡ getD (d .kinds) o 0
+  get-kind o h = at-ks table (d .kinds) (d .places) (counts d) (d .pairs) (kindAt N l o) o (omega (arith, P .register-at)) (omega (arith, P .kinds-size))
 
   pub get-place : (o : ℕ) → o < l .objects → getD (recordWords table d) (placeAt l o) 0 ≡ getD (d .places) o 0
   get-place o h = at-ps table (d .kinds) (d .places) (counts d) (d .pairs) (placeAt l o) o (omega (arith, P .register-at, P .positions-at, P .kinds-size)) (omega (arith, P .places-size))

@@ -3,7 +3,7 @@ use Prim.Native.Nat.{ℕ, _+_, _*_, _/_}
 use mathlib.Core.List.{List}
 use Rattle.words.specs.Words.{word}
 use Rattle.net.specs.Net.{Net}
-use Rattle.replay.specs.Register.{rowBytes}
+use Rattle.replay.specs.Register.{rowBytes, kindIndex, placeIndex}
 use Rattle.replay_layout.specs.declared.Layout.{Layout}
 
 -- the starts of the bodies behind the table, the number of objects, and the net's number of places
@@ -18,11 +18,11 @@ layoutOf N b = record {
 }
 
 -- object o's row of the register and of the positions: its kind, and its place
-abbrev pub kindAt : Layout → ℕ → ℕ
-kindAt l o = l .register + o
+abbrev pub kindAt : Net → Layout → ℕ → ℕ
+kindAt N l o = l .register + kindIndex N o
 
 abbrev pub placeAt : Layout → ℕ → ℕ
-placeAt l o = l .positions + o
+placeAt l o = l .positions + placeIndex o
 
 -- in the counts: FIRED and JUMPS of activity a, behind closed, accepted events and closing jumps
 abbrev pub firedIndex : ℕ → ℕ

@@ -3,7 +3,6 @@
 use super::Layout;
 use super::counts_bytes;
 use super::pairs_bytes;
-use super::rows;
 use net::NetWords;
 ghost use mathlib.Core.Path.{_≡_};
 ghost use Prim.Native.Nat.{_≤_};
@@ -17,7 +16,7 @@ pub fn record_bytes(t: &NetWords, table: usize, register: &[u8]) -> usize
     requires { ⌜ (table ≤ maxTable) × Registered (netIn (now t)) (now register) ⌝ }
     ensures { λ r. ⌜ r ≡ freshBytes (netIn (now (t .entry))) table (now (register .entry)) ⌝ }
 {
-    let positions = rows::position_bytes(rows::objects(register, t));
+    let positions = replay_rows::position_bytes(replay_rows::objects(register, t));
     40 + table + register.len() + positions + counts_bytes(t) + pairs_bytes(t)
 }
 
@@ -27,10 +26,10 @@ pub fn layout(t: &NetWords, table: usize, register: &[u8]) -> Layout
     requires { ⌜ (table ≤ 1176) × Registered (netIn (now t)) (now register) ⌝ }
     ensures { λ r. ⌜ r ≡ freshLayout (netIn (now (t .entry))) table (now (register .entry)) ⌝ }
 {
-    let n = rows::objects(register, t);
+    let n = replay_rows::objects(register, t);
     let kinds = 10 + table;
     let places = kinds + register.len() / 4;
-    let counts = places + rows::position_bytes(n) / 4;
+    let counts = places + replay_rows::position_bytes(n) / 4;
     Layout {
         register: kinds,
         positions: places,

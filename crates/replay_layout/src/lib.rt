@@ -1,5 +1,5 @@
 // Where the parts of a desk record stand, by the record's own contents, and the numbers of an object's rows: each offset is
-// worked out here alone. `rows` reads a register's bytes by its rows, `fresh` lays out the record of a trail that is just started.
+// worked out here alone. How wide an object's row is `replay_rows` knows. `fresh` lays out the record of a trail that is just started.
 // Above `replay`, whose records it reads. The calls on a trail use it, and the checkpoints and trace files its rows.
 
 use net::NetWords;
@@ -14,7 +14,6 @@ ghost use Rattle.replay.specs.Record.{countsSize};
 ghost use Rattle.replay_layout.specs.Offsets.{layoutOf, kindAt, placeAt, closedAt, eventsAt, closingAt, firedAt, jumpsAt, pairAt};
 
 pub mod fresh;
-pub mod rows;
 
 // Bytes of the longest desk record.
 pub const MAX_RECORD: usize = 29844;
@@ -58,7 +57,7 @@ pub fn read_layout(rec: &[u8], t: &NetWords) -> Layout
         positions: quarter(rec, 16),
         counts: quarter(rec, 24),
         pairs: quarter(rec, 32),
-        objects: rows::rows_in(words::wide(words::word_at(rec, 12)), t),
+        objects: replay_rows::rows_in(words::wide(words::word_at(rec, 12)), t),
         places: net_lookup::places(t),
     }
 }
@@ -83,11 +82,11 @@ pub fn pairs_bytes(t: &NetWords) -> usize
 
 // The kind of object o. Rows are read and written as numbers behind their body's start: that is worked out once for all objects
 // of an event.
-pub fn get_kind(rec: &[u8], lay: Layout, o: usize) -> u32
-    requires { ⌜ kindAt lay o < length (wordsOf (now rec)) ⌝ }
-    ensures { λ r. ⌜ r ≡ getD (wordsOf (now (rec .entry))) (kindAt lay o) 0 ⌝ }
+pub fn get_kind(rec: &[u8], t: &NetWords, lay: Layout, o: usize) -> u32
+    requires { ⌜ kindAt (netIn (now t)) lay o < length (wordsOf (now rec)) ⌝ }
+    ensures { λ r. ⌜ r ≡ getD (wordsOf (now (rec .entry))) (kindAt (netIn (now (t .entry))) lay o) 0 ⌝ }
 {
-    words::get_behind(rec, lay.register, o)
+    words::get_behind(rec, lay.register, replay_rows::kind_index(t, o))
 }
 
 // The place of object o.
@@ -95,7 +94,7 @@ pub fn get_place(rec: &[u8], lay: Layout, o: usize) -> u32
     requires { ⌜ placeAt lay o < length (wordsOf (now rec)) ⌝ }
     ensures { λ r. ⌜ r ≡ getD (wordsOf (now (rec .entry))) (placeAt lay o) 0 ⌝ }
 {
-    words::get_behind(rec, lay.positions, o)
+    words::get_behind(rec, lay.positions, replay_rows::place_index(o))
 }
 
 // Place q becomes the place of object o; no other byte changes.
@@ -103,7 +102,7 @@ pub fn put_place(rec: &mut [u8], lay: Layout, o: usize, q: u32)
     requires { ⌜ placeAt lay o < length (wordsOf (now rec)) ⌝ }
     ensures { λ _. ⌜ Put (now (rec .entry)) (placeAt lay o) q (now (rec .exit)) ⌝ }
 {
-    words::put_behind(rec, lay.positions, o, q);
+    words::put_behind(rec, lay.positions, replay_rows::place_index(o), q);
 }
 
 // Where it stands whether the trail is closed.

@@ -180,13 +180,13 @@ module _ (N : Net) (table : List ℕ) (l : Layout) (b own s : ℕ) (d : State) (
   sum-few = omega (arith, length-set w own (getD w own 0 + s), ap length (W .words), record-few N table l d (W .placed))
 
   -- the register's numbers
-  pub register-in : (o : ℕ) → o < l .objects → kindAt l o < length w
+  pub register-in : (o : ℕ) → o < l .objects → kindAt N l o < length w
   register-in o h = omega (arith, size, W .placed .positions-at, W .placed .counts-at, W .placed .pairs-at)
 
-  pub register-kind : (ks : List ℕ) → d .kinds ≡ ks → (o : ℕ) → o < l .objects → getD w (kindAt l o) 0 ≡ getD ks o 0
+  pub register-kind : (ks : List ℕ) → d .kinds ≡ ks → (o : ℕ) → o < l .objects → getD w (kindAt N l o) 0 ≡ getD ks o 0
   register-kind ks e o h =
-      other (kindAt l o) (λ q. omega (arith, S .low, W .placed .positions-at, W .placed .counts-at))
-      ∙ ap (λ (v : List ℕ). getD v (kindAt l o) 0) (W .words) ∙ get-kind N table l d (W .placed) o h ∙ ap (λ (x : List ℕ). getD x o 0) e
+      other (kindAt N l o) (λ q. omega (arith, S .low, W .placed .positions-at, W .placed .counts-at))
+      ∙ ap (λ (v : List ℕ). getD v (kindAt N l o) 0) (W .words) ∙ get-kind N table l d (W .placed) o h ∙ ap (λ (x : List ℕ). getD x o 0) e
 
   -- the sum can be added
   pub can-add-sum : b ≤ 4294967296 → CanAdd own s w

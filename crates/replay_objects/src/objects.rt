@@ -3,8 +3,8 @@
 use crate::kinds::two_of_kind;
 use net::NetWords;
 use net_lookup::takes_kind;
-use replay_layout::rows::kind;
-use replay_layout::rows::objects;
+use replay_rows::kind;
+use replay_rows::objects;
 use words::get_word;
 use words::wide;
 ghost use mathlib.Core.Bool.{not};

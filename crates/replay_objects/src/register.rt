@@ -2,8 +2,8 @@
 
 use net::NetWords;
 use net_lookup::kinds;
-use replay_layout::rows::kind;
-use replay_layout::rows::objects;
+use replay_rows::kind;
+use replay_rows::objects;
 use words::wide;
 ghost use mathlib.Core.Path.{_≡_};
 ghost use Prim.Native.Nat.{ℕ};

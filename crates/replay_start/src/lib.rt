@@ -6,7 +6,6 @@ use net::NetWords;
 use replay_layout::Layout;
 use replay_layout::fresh;
 use replay_layout::put_place;
-use replay_layout::rows;
 use replay_objects::register::register_refusal;
 ghost use mathlib.Core.Path.{_≡_};
 ghost use mathlib.Core.List.{map};
@@ -88,7 +87,7 @@ fn put_source(t: &NetWords, objects: &[u8], out: &mut [u8], lay: Layout, o: usiz
     requires { ⌜ (o < length (kindsIn (netIn (now t)) (now objects))) × (placeAt lay o < length (wordsOf (now out))) ⌝ }
     ensures { λ _. ⌜ wordsOf (now (out .exit)) ≡ set (wordsOf (now (out .entry))) (placeAt lay o) (getD (map (netIn (now (t .entry)) .source) (kindsIn (netIn (now (t .entry))) (now (objects .entry)))) o 0) ⌝ }
 {
-    let k = words::wide(rows::kind(objects, t, o));
+    let k = words::wide(replay_rows::kind(objects, t, o));
     let q = net_lookup::source(t, k);
     put_place(out, lay, o, q as u32);
 }
@@ -100,7 +99,7 @@ fn put_sources(t: &NetWords, objects: &[u8], out: &mut [u8], lay: Layout)
     requires { ⌜ placeAt lay (length (kindsIn (netIn (now t)) (now objects))) ≤ length (wordsOf (now out)) ⌝ }
     ensures { λ _. ⌜ wordsOf (now (out .exit)) ≡ sets (wordsOf (now (out .entry))) (lay .positions) (map (netIn (now (t .entry)) .source) (kindsIn (netIn (now (t .entry))) (now (objects .entry)))) ⌝ }
 {
-    let n = rows::objects(objects, t);
+    let n = replay_rows::objects(objects, t);
     let mut o = 0;
     while o < n {
         put_source(t, objects, out, lay, o);
@@ -130,7 +129,7 @@ fn fill(t: &NetWords, table: &[u8], objects: &[u8], out: &mut [u8])
     let counts = replay_layout::counts_bytes(t);
     let pairs = replay_layout::pairs_bytes(t);
     let lay = fresh::layout(t, table.len() / 4, objects);
-    let positions = rows::position_bytes(lay.objects);
+    let positions = replay_rows::position_bytes(lay.objects);
     put_contents(out, table.len(), objects.len(), positions, counts, pairs);
     copy_words(table, out, 10);
     copy_words(objects, out, lay.register);

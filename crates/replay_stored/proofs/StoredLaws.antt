@@ -58,10 +58,10 @@ module _ (w b : List ℕ) (R : Ready w b) where
     pub objects-are : l .objects ≡ length (stateAt b .kinds)
     objects-are = sym (placed .kinds-size)
 
-    pub has-kind : (o : ℕ) → o < length (stateAt b .kinds) → At b (kindAt l o) (getD (stateAt b .kinds) o 0)
+    pub has-kind : (o : ℕ) → o < length (stateAt b .kinds) → At b (kindAt N l o) (getD (stateAt b .kinds) o 0)
     has-kind o h =
         let o-in : o < l .objects = omega (arith, objects-are) in
-        at (kindAt l o) (getD (d .kinds) o 0) (omega (arith, placed .positions-at, placed .counts-at, placed .pairs-at)) (get-kind N (tableIn b) l d placed o o-in)
+        at (kindAt N l o) (getD (d .kinds) o 0) (omega (arith, placed .positions-at, placed .counts-at, placed .pairs-at)) (get-kind N (tableIn b) l d placed o o-in)
 
     pub has-fired : (a : ℕ) → a < netIn w .acts → At b (firedAt l a) (getD (stateAt b .fired) a 0)
     has-fired a h = at (firedAt l a) (getD (d .fired) a 0) (omega (arith, placed .pairs-at)) (get-fired N (tableIn b) l d placed a h)

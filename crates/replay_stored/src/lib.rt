@@ -61,7 +61,7 @@ pub fn kind(rec: &[u8], t: &NetWords, o: usize) -> usize
     ensures { λ r. ⌜ (r ≡ getD (stateAt (now (rec .entry)) .kinds) o 0) × (r < netIn (now (t .entry)) .kinds) ⌝ }
 {
     let lay = read_layout(rec, t);
-    words::wide(get_kind(rec, lay, o))
+    words::wide(get_kind(rec, t, lay, o))
 }
 
 // FIRED of activity a.

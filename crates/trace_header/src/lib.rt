@@ -3,9 +3,9 @@
 // is given.
 
 use net::NetWords;
-use replay_layout::rows::most_bytes;
-use replay_layout::rows::whole_body;
 use replay_objects::register::register_refusal;
+use replay_rows::most_bytes;
+use replay_rows::whole_body;
 use words::wide;
 use words::word_at;
 ghost use mathlib.Core.Path.{_≡_};

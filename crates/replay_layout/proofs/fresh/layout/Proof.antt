@@ -1,6 +1,6 @@
 -- Each body behind the one before it. Assumes nothing.
 use Prim.Native.Nat.{_/_}
-use mathlib.Core.Path.{_≡_}
+use mathlib.Core.Path.{_≡_, refl}
 use native.Mathlib.Omega.{arith}
 use Rattle.net.specs.Held.{netIn}
 use Rattle.replay.specs.Record.{countsSize}
@@ -36,7 +36,7 @@ returns : tie.Need-returns
 returns c =
     let a = c .before .before .before .before .before .args in
     let n : c .before .counts-bytes .result / 4 ≡ countsSize (netIn (a .t .now)) = omega (arith, c .before .counts-bytes .ensures .0) in
-    rw (n, c .places .ensures, c .before .before .position-bytes .ensures, c .before .before .before .objects .ensures)
+    rw (n, c .places .ensures, c .before .before .position-bytes .ensures, c .before .before .before .objects .ensures) refl
 
 pub layout-spec : {M : Type 1} → statement M
 layout-spec =

@@ -1,5 +1,7 @@
 // The rows of the objects: a register's, how many, whether they are whole, and the kind in each; those of the positions, their bytes,
-// and the place in each. How wide a row is stands here, and in a record's offsets (`get_kind`, `get_place`, `put_place`) beside it.
+// and the place in each. How wide a row is stands here alone.
+// Above `replay`, whose definitions its contracts cite. `replay_layout` finds a record's rows by it; the tests of registers and
+// positions, starting and trace files read theirs through it.
 
 use net::NetWords;
 use words::get_word;
@@ -7,7 +9,7 @@ ghost use mathlib.Core.Path.{_≡_};
 ghost use Prim.Native.Nat.{_/_, _≤_, _<_};
 ghost use lib.ListN.{length, getD};
 ghost use Rattle.net.specs.Held.{netIn};
-ghost use Rattle.replay.specs.Register.{rowBytes, maxRegister, wholeBody, kindsIn, wholeRows, placesIn, positionBytes};
+ghost use Rattle.replay.specs.Register.{rowBytes, maxRegister, wholeBody, wholeRows, kindIndex, kindsIn, positionBytes, placeIndex, placesIn};
 
 // The bytes of the longest register that is taken.
 pub fn most_bytes(t: &NetWords) -> usize
@@ -44,12 +46,19 @@ pub fn objects(register: &[u8], t: &NetWords) -> usize
     rows_in(register.len(), t)
 }
 
+// Where object o's kind stands among a register's numbers.
+pub fn kind_index(t: &NetWords, o: usize) -> usize
+    ensures { λ r. ⌜ r ≡ kindIndex (netIn (now (t .entry))) o ⌝ }
+{
+    o
+}
+
 // The kind of object o.
 pub fn kind(register: &[u8], t: &NetWords, o: usize) -> u32
     requires { ⌜ o < length (kindsIn (netIn (now t)) (now register)) ⌝ }
     ensures { λ r. ⌜ r ≡ getD (kindsIn (netIn (now (t .entry))) (now (register .entry))) o 0 ⌝ }
 {
-    get_word(register, o)
+    get_word(register, kind_index(t, o))
 }
 
 // The bytes of the positions of n objects.
@@ -60,10 +69,17 @@ pub fn position_bytes(n: usize) -> usize
     4 * n
 }
 
+// Where object o's place stands among the positions' numbers.
+pub fn place_index(o: usize) -> usize
+    ensures { λ r. ⌜ r ≡ placeIndex o ⌝ }
+{
+    o
+}
+
 // The place of object o, in the positions.
 pub fn place(positions: &[u8], o: usize) -> u32
     requires { ⌜ o < length (placesIn (now positions)) ⌝ }
     ensures { λ r. ⌜ r ≡ getD (placesIn (now (positions .entry))) o 0 ⌝ }
 {
-    get_word(positions, o)
+    get_word(positions, place_index(o))
 }

@@ -2,8 +2,8 @@
 use mathlib.Core.Path.{sym, _∙_}
 use Rattle.words.proofs.Words.{length-words}
 use borrow.Author.Needs.{needs}
-use Rattle.replay_layout.proofs.rows.objects.Statement.{statement}
-use Rattle.replay_layout.proofs.rows.objects.Tie as tie
+use Rattle.replay_rows.proofs.objects.Statement.{statement}
+use Rattle.replay_rows.proofs.objects.Tie as tie
 
 rows-in-requires : tie.Need-rows-in-requires
 rows-in-requires c κs = search needs
