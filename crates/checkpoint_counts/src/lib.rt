@@ -1,5 +1,5 @@
 // Test 46 on the bytes of register and counts.
-// Above `net_lookup` and `replay_layout`, which reads rows and says where each count stands; `checkpoint` has the definitions.
+// Above `net_lookup`, `replay_rows` and `replay_layout`, which says where each count stands; `checkpoint` has the definitions.
 
 use net::NetWords;
 use replay_layout::CLOSING;

@@ -1,6 +1,6 @@
 // Test 47 on the bytes of register, counts and jumps. Sums are of 64 bits: unchecked numbers are added exactly.
-// Above `net_lookup`, `replay_layout`, which reads rows and says where each count stands, and `checkpoint_counts`, which sums the counts; `checkpoint` has the
-// definitions.
+// Above `net_lookup`, `replay_rows`, `replay_layout`, which says where each count stands, and `checkpoint_counts`, which sums the
+// counts; `checkpoint` has the definitions.
 
 use checkpoint_counts::sum_every;
 use checkpoint_counts::wide64;

@@ -1,5 +1,5 @@
 // Test 45 on the bytes of register and positions.
-// Above `net_lookup` and `replay_layout`, which reads rows; `checkpoint` has the definitions.
+// Above `net_lookup` and `replay_rows`, which reads the rows; `checkpoint` has the definitions.
 
 use net::NetWords;
 use replay_rows::kind;

@@ -1,6 +1,7 @@
-// Where the parts of a desk record stand, by the record's own contents, and the numbers of an object's rows: each offset is
-// worked out here alone. How wide an object's row is `replay_rows` knows. `fresh` lays out the record of a trail that is just started.
-// Above `replay`, whose records it reads. The calls on a trail use it, and the checkpoints and trace files its rows.
+// Where the parts of a desk record stand, by the record's own contents, and each number in them: every offset is worked out here
+// alone. `fresh` lays out the record of a trail that is just started.
+// Above `replay`, whose records it reads, and `replay_rows`, which knows the rows. The calls on a trail use it, and the
+// checkpoints, for the bodies' sizes and where each count stands.
 
 use net::NetWords;
 ghost use mathlib.Core.Path.{_≡_};

@@ -1,6 +1,6 @@
 // Starting a trail: its first record, written into lent bytes from a loaded table and the objects' kinds.
-// Above `net_lookup`, `replay_objects`, which refuses a register, and `replay`, whose definitions its contracts cite. The program
-// and the C calls start by it.
+// Above `net_lookup`, `replay_objects`, which refuses a register, `replay_layout`, which lays out the record, and `replay`, whose
+// definitions its contracts cite. The program and the C calls start by it.
 
 use net::NetWords;
 use replay_layout::Layout;

@@ -1,5 +1,5 @@
 // Opening a trail file: what its contents say, 71, then 11 and 12 of its register.
-// Above `words`, `net` and `replay`; `trace_reader` reads the events behind the register, `program_open` opens the trail that it
+// Above `replay_objects` and `replay_rows`, which knows the register's rows; `trace_reader` reads the events behind the register, `program_open` opens the trail that it
 // is given.
 
 use net::NetWords;
