@@ -7,7 +7,7 @@ use native.Mathlib.Nat.{zero-mul, suc-mul}
 use lib.Dec.{eqb}
 use Rattle.words.specs.Lists.{anyTo, sumTo}
 use Rattle.words.proofs.Lists.{is-eq, not-eqb, anyTo-none, anyTo-false}
-use Rattle.words.proofs.Sums.{sumTo-same, sumTo-zero, sumTo-add, term-le}
+use Rattle.words.proofs.Sums.{sumTo-same, sumTo-zero, sumTo-add, sumTo-append, term-le}
 use Rattle.checkpoint_counts.proofs.Searches.{same-false}
 
 -- a sum is 0 where each of its terms is
@@ -27,13 +27,9 @@ sum-swap : (n m : ℕ) (f : ℕ → ℕ → ℕ) → sumTo n (λ (i : ℕ). sumT
 sum-swap zero m f = sym (sumTo-zero m)
 sum-swap (suc n) m f = ap (λ (s : ℕ). sumTo m (f n) + s) (sum-swap n m f) ∙ sym (sumTo-add m (f n) (λ (j : ℕ). sumTo n (λ (i : ℕ). f i j)))
 
-sum-append : (m k : ℕ) (f : ℕ → ℕ) → sumTo (k + m) f ≡ sumTo m (λ (y : ℕ). f (k + y)) + sumTo k f
-sum-append zero k f = let z : k + 0 ≡ k = omega arith in rw z (omega arith)
-sum-append (suc m) k f = let z : k + suc m ≡ suc (k + m) = omega arith in rw z (omega (arith, sum-append m k f))
-
 sum-rows : (n m : ℕ) (f : ℕ → ℕ) → sumTo (n * m) f ≡ sumTo n (λ (x : ℕ). sumTo m (λ (y : ℕ). f (x * m + y)))
 sum-rows zero m f = rw zero-mul
-sum-rows (suc n) m f = rw suc-mul (sum-append m (n * m) f ∙ ap (λ (s : ℕ). sumTo m (λ (y : ℕ). f (n * m + y)) + s) (sum-rows n m f))
+sum-rows (suc n) m f = rw suc-mul (sumTo-append m (n * m) f ∙ ap (λ (s : ℕ). sumTo m (λ (y : ℕ). f (n * m + y)) + s) (sum-rows n m f))
 
 -- a square, summed by columns
 pub sum-columns : (n m : ℕ) (f : ℕ → ℕ) → sumTo (n * m) f ≡ sumTo m (λ (y : ℕ). sumTo n (λ (x : ℕ). f (x * m + y)))

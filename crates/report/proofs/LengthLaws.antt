@@ -1,11 +1,10 @@
 -- No line of a sound state of a loaded net has more than 41 bytes, so that with as much room 61 is never given; and the line of a
 -- refusal has at most 30. Assumes nothing.
-use Prim.Native.Nat.{ℕ, zero, suc, _+_, _*_, _^_, _≤_, _<_}
+use Prim.Native.Nat.{ℕ, suc, _+_, _*_, _^_, _≤_, _<_}
 use mathlib.Core.Bool.{Bool, true, false}
 use mathlib.Core.Path.{_≡_, refl, ap}
 use mathlib.Core.List.{List, [], _∷_}
-use native.Mathlib.Nat.{mul-le-mul, mul-le-mul-left, mul-le-mul-right, add-suc}
-use native.Mathlib.Decide.{ℕ-discrete}
+use native.Mathlib.Nat.{mul-le-mul, mul-le-mul-left, mul-le-mul-right}
 use native.Mathlib.Omega.{arith}
 use lib.Arith.{digits-lt}
 use lib.Dec.{eqb}
@@ -14,7 +13,7 @@ use borrow.Author.Tests.{le-ltb, leb-false}
 use Rattle.words.specs.Lists.{pick, one, total, sumTo}
 use Rattle.words.specs.Refusals.{first}
 use Rattle.words.proofs.Refusals.{None}
-use Rattle.words.proofs.Sums.{term-le, sumTo-le, sumTo-mul}
+use Rattle.words.proofs.Sums.{term-le, sumTo-le, sumTo-mul, sumTo-append, sumTo-under}
 use Rattle.net.specs.Net.{Net, Arc, Loaded}
 use Rattle.replay.specs.Plain.{closers, closerKinds}
 use Rattle.replay.specs.State.{State, inputs, storedConsumed, storedPair, storedJumpsIn, storedJumpsOut, storedMoved, storedJumps, storedTransfers}
@@ -82,19 +81,6 @@ ones-le {A} f (x ∷ xs) = go (f x) (ones-le f xs)
     go true h = omega arith
     go false h = omega arith
 
--- a row of the pairs is a part of them
-row-under : (k m : ℕ) (f : ℕ → ℕ) → sumTo m (λ (y : ℕ). f (k + y)) ≤ sumTo (k + m) f
-row-under k zero f = omega arith
-row-under k (suc m) f = omega (arith, row-under k m f, ap (λ (n : ℕ). sumTo n f) (add-suc k m))
-
-sum-more : (n m : ℕ) (f : ℕ → ℕ) → n ≤ m → sumTo n f ≤ sumTo m f
-sum-more n zero f h = let z : n ≡ 0 = omega arith in rw z (omega arith)
-sum-more n (suc m) f h = go (ℕ-discrete n (suc m)) (sum-more n m f)
-  where
-    go : Dec (n ≡ suc m) → (n ≤ m → sumTo n f ≤ sumTo m f) → sumTo n f ≤ f m + sumTo m f
-    go (yes e) r = rw e (omega arith)
-    go (no l) r = omega (arith, r (omega arith))
-
 -- how large the counts of a sound state can be
 module _ (N : Net) (L : Loaded N) (d : State) (S : Sound N d) where
   moved-sum : sumTo (N .acts) (λ (a : ℕ). storedMoved N d a) ≤ 8000000
@@ -132,8 +118,8 @@ module _ (N : Net) (L : Loaded N) (d : State) (S : Sound N d) where
   jumps-out-le : (q : ℕ) → q < N .places → storedJumpsOut N d q ≤ 8001024
   jumps-out-le q h = omega (
     arith,
-    row-under (q * N .places) (N .places) (λ (i : ℕ). getD (d .pairs) i 0),
-    sum-more (q * N .places + N .places) (N .places * N .places) (λ (i : ℕ). getD (d .pairs) i 0) (omega (arith, mul-le-mul-right (N .places) h)),
+    sumTo-append (N .places) (q * N .places) (λ (i : ℕ). getD (d .pairs) i 0),
+    sumTo-under (q * N .places + N .places) (N .places * N .places) (λ (i : ℕ). getD (d .pairs) i 0) (omega (arith, mul-le-mul-right (N .places) h)),
     S .pair-sum,
     all-jumps-le,
   )

@@ -1,5 +1,5 @@
 -- Laws of `total` and `sumTo`. Assumes nothing.
-use Prim.Native.Nat.{ℕ, zero, suc, _+_, _*_, _≤_, _<_}
+use Prim.Native.Nat.{ℕ, zero, suc, _+_, _*_, _-_, _≤_, _<_}
 use mathlib.Core.Bool.{Bool, true, false}
 use mathlib.Core.Path.{_≡_, refl, ap, sym, _∙_}
 use mathlib.Core.List.{List, [], _∷_, _++_, map}
@@ -55,6 +55,14 @@ module _ {A : Type 0} where
 pub sumTo-same : (n : ℕ) (f g : ℕ → ℕ) → ((i : ℕ) → i < n → f i ≡ g i) → sumTo n f ≡ sumTo n g
 sumTo-same zero f g h = refl
 sumTo-same (suc n) f g h = omega (arith, h n (omega arith), sumTo-same n f g (λ i l. h i (omega arith)))
+
+-- the numbers from k on, and those before
+pub sumTo-append : (m k : ℕ) (f : ℕ → ℕ) → sumTo (k + m) f ≡ sumTo m (λ (i : ℕ). f (k + i)) + sumTo k f
+sumTo-append zero k f = let z : k + 0 ≡ k = omega arith in rw z (omega arith)
+sumTo-append (suc m) k f = let z : k + suc m ≡ suc (k + m) = omega arith in rw z (omega (arith, sumTo-append m k f))
+
+pub sumTo-under : (k n : ℕ) (f : ℕ → ℕ) → k ≤ n → sumTo k f ≤ sumTo n f
+sumTo-under k n f h = let z : k + (n - k) ≡ n = omega arith in omega (arith, sumTo-append (n - k) k f, ap (λ (m : ℕ). sumTo m f) z)
 
 -- one number more
 pub sumTo-more : (n : ℕ) (f : ℕ → ℕ) → sumTo (n + 1) f ≡ f n + sumTo n f
