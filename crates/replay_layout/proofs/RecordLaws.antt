@@ -20,6 +20,7 @@ use Rattle.replay_layout.specs.Offsets.{layoutOf, kindAt, placeAt, close
 use Rattle.replay.specs.Ready.{Ready}
 use Rattle.replay.proofs.Interleave.{length-interleave, interleave-even, interleave-odd, interleave-set-even, interleave-set-odd}
 use Rattle.replay.proofs.Encode.{Laid, intact-laid, counts-size, words-encode, bytes-encode}
+use Rattle.net.specs.Limits.{maxTable}
 use Rattle.replay.specs.Limits.{maxWords}
 
 -- l is the layout of a record of a table and the state d, of the net N: how large the parts are, and what follows what
@@ -34,7 +35,7 @@ pub record Placed (N : Net) (table : List ℕ) (l : Layout) (d : State) : Type 0
   pub fired-size : length (d .fired) ≡ N .acts
   pub jumps-size : length (d .jumps) ≡ N .acts
   pub pairs-size : length (d .pairs) ≡ l .places * l .places
-  pub table-few : length (wordsOf table) ≤ 1176
+  pub table-few : length (wordsOf table) ≤ maxTable / 4
   pub objects-few : l .objects ≤ 1024
   pub acts-few : N .acts ≤ 64
   pub places-few : l .places ≤ 64

@@ -5,7 +5,7 @@ use super::counts_bytes;
 use super::pairs_bytes;
 use net::NetWords;
 ghost use mathlib.Core.Path.{_≡_};
-ghost use Prim.Native.Nat.{_≤_};
+ghost use Prim.Native.Nat.{_/_, _≤_};
 ghost use Rattle.net.specs.Limits.{maxTable};
 ghost use Rattle.net.specs.Held.{netIn, Held};
 ghost use Rattle.replay_layout.specs.Fresh.{Registered, freshBytes, freshLayout};
@@ -23,7 +23,7 @@ pub fn record_bytes(t: &NetWords, table: usize, register: &[u8]) -> usize
 // Where the bodies stand, by how many numbers the table has and by the register.
 pub fn layout(t: &NetWords, table: usize, register: &[u8]) -> Layout
     requires { ⌜ Held (now t) ⌝ }
-    requires { ⌜ (table ≤ 1176) × Registered (netIn (now t)) (now register) ⌝ }
+    requires { ⌜ (table ≤ maxTable / 4) × Registered (netIn (now t)) (now register) ⌝ }
     ensures { λ r. ⌜ r ≡ freshLayout (netIn (now (t .entry))) table (now (register .entry)) ⌝ }
 {
     let n = replay_rows::objects(register, t);
