@@ -27,11 +27,11 @@ use Rattle.replay.proofs.Keep.{sound-ask}
 use Rattle.checkpoint.specs.Restore.{beginsClosed, tests44, tests45, tests46, tests47, restoreTests, restoreCode}
 use Rattle.checkpoint.proofs.Spans.{Ends, ends-at, at-ends, words-from-length, words-from-bytes, words-from-read, words-head, glue, interleave-parted, parted-length}
 use Rattle.checkpoint.proofs.Judged.{sound-registered, sound45, sound46, sound47, judged-sound}
-use Rattle.replay.specs.Limits.{maxRecord}
+use Rattle.replay.specs.Limits.{maxRecord, recordBodies, recordHead, headWords}
 
 -- the contents of a record that is taken up, and of its counts and jumps bodies the lengths
 record Fitted (b : List ℕ) (N : Net) : Type 0 where
-  at0 : word b 0 ≡ 40
+  at0 : word b 0 ≡ recordHead
   at8 : word b 8 ≡ word b 0 + word b 4
   at16 : word b 16 ≡ word b 8 + word b 12
   at24 : word b 24 ≡ word b 16 + word b 20
@@ -81,12 +81,12 @@ module _ (b : List ℕ) (N : Net) (F : Fitted b N) where
       go (x ∷ y ∷ []) e = absurd (omega arith)
       go (x ∷ y ∷ z ∷ r) e = ap (λ (l : List ℕ). x ∷ y ∷ z ∷ l) (interleave-parted (N .acts) r (omega arith))
 
-  contents-are : contents (tableIn b) (stateIn N b) ≡ wordsFrom b 0 10
+  contents-are : contents (tableIn b) (stateIn N b) ≡ wordsFrom b 0 headWords
   contents-are =
       let t = table-length in let k = kinds-length in let p = places-length in let j = pairs-length in
       let c : length (counts (stateIn N b)) ≡ countsSize N = ap length counts-whole ∙ counts-length in
       ten _ _ _ _ _ _ _ _ _ _ _ _ _ _ _ _ _ _ _ _ (omega arith) (omega arith) (omega arith) (omega arith) (omega arith) (omega arith) (omega arith) (omega arith) (omega arith) (omega arith)
-      ∙ sym (words-from-read b 10 0 (omega arith))
+      ∙ sym (words-from-read b headWords 0 (omega arith))
     where
       ten : (a0 a1 a2 a3 a4 a5 a6 a7 a8 a9 b0 b1 b2 b3 b4 b5 b6 b7 b8 b9 : ℕ) → a0 ≡ b0 → a1 ≡ b1 → a2 ≡ b2 → a3 ≡ b3 → a4 ≡ b4 → a5 ≡ b5 → a6 ≡ b6 → a7 ≡ b7 → a8 ≡ b8 → a9 ≡ b9
           → _≡_ {A = List ℕ} (a0 ∷ a1 ∷ a2 ∷ a3 ∷ a4 ∷ a5 ∷ a6 ∷ a7 ∷ a8 ∷ a9 ∷ []) (b0 ∷ b1 ∷ b2 ∷ b3 ∷ b4 ∷ b5 ∷ b6 ∷ b7 ∷ b8 ∷ b9 ∷ [])
@@ -97,8 +97,8 @@ module _ (b : List ℕ) (N : Net) (F : Fitted b N) where
   unfolding encode tableIn stateIn
   again small = cc (h, k, p, c, j) ∙ all
     where
-      h : bytesOf (contents (tableIn b) (stateIn N b)) ≡ take 40 (drop 0 b)
-      h = ap bytesOf contents-are ∙ words-from-bytes b 0 10 (omega arith) small 40 refl
+      h : bytesOf (contents (tableIn b) (stateIn N b)) ≡ take recordHead (drop 0 b)
+      h = ap bytesOf contents-are ∙ words-from-bytes b 0 headWords (omega arith) small recordHead refl
 
       k : bytesOf (stateIn N b .kinds) ≡ take (word b 12) (drop (word b 8) b)
       k = words-from-bytes b (word b 8) (word b 12 / 4) (omega arith) small (word b 12) (omega arith)
@@ -115,8 +115,8 @@ module _ (b : List ℕ) (N : Net) (F : Fitted b N) where
       to : {i k : ℕ} → k ≡ i → drop k b ≡ drop i b
       to e = ap (λ (i : ℕ). drop i b) e
 
-      all : take 40 (drop 0 b) ++ (take (word b 4) (drop (word b 0) b) ++ (take (word b 12) (drop (word b 8) b) ++ (take (word b 20) (drop (word b 16) b) ++ (take (word b 28) (drop (word b 24) b) ++ take (word b 36) (drop (word b 32) b))))) ≡ b
-      all = glue b 0 40 _ (glue b (word b 0) (word b 4) _ (glue b (word b 8) (word b 12) _ (glue b (word b 16) (word b 20) _ (glue b (word b 24) (word b 28) _
+      all : take recordHead (drop 0 b) ++ (take (word b 4) (drop (word b 0) b) ++ (take (word b 12) (drop (word b 8) b) ++ (take (word b 20) (drop (word b 16) b) ++ (take (word b 28) (drop (word b 24) b) ++ take (word b 36) (drop (word b 32) b))))) ≡ b
+      all = glue b 0 recordHead _ (glue b (word b 0) (word b 4) _ (glue b (word b 8) (word b 12) _ (glue b (word b 16) (word b 20) _ (glue b (word b 24) (word b 28) _
           (take-all (word b 36) (drop (word b 32) b) (simp length-drop (omega arith)) ∙ to (F .at32)) ∙ to (F .at24)) ∙ to (F .at16)) ∙ to (F .at8)) ∙ to (F .at0))
 
 -- whether the counts body of a record begins with a 1, and the tests of its bodies
@@ -141,9 +141,9 @@ module _ (b : List ℕ) (z : restoreCode b ≡ 0) where
   unfolding restoreCode
   passed = none-apply (restoreTests b) (omega arith) z
 
-  ends : Ends b 0 40 5 (length b)
+  ends : Ends b 0 recordHead recordBodies (length b)
   unfolding bodiesOf
-  ends = ends-at b 5 0 40 (length b) (not-false _ (passed .1 .1 .0))
+  ends = ends-at b recordBodies 0 recordHead (length b) (not-false _ (passed .1 .1 .0))
 
   pub restored-le : length b ≤ maxRecord
   restored-le = ltb-false maxRecord (length b) (passed .1 .0)
@@ -211,7 +211,7 @@ module _ (b : List ℕ) (L : Loaded (netAt b)) (I : Intact (netAt b) b) where
   unfolding stateAt
   size-le = subst (λ (c : List ℕ). length c ≤ maxRecord) (sym (I .bytes)) (encode-le (netAt b) L (tableIn b) (stateAt b) stored-sound (I .table-size))
 
-  ends-there : Ends b 0 40 5 (length b)
+  ends-there : Ends b 0 recordHead recordBodies (length b)
   ends-there = let X = placed in (omega arith, (omega arith, (omega arith, (omega arith, (omega arith, omega arith)))))
 
   counts-fit : length (counts (stateAt b)) ≡ countsSize (netAt b)
@@ -232,7 +232,7 @@ module _ (b : List ℕ) (L : Loaded (netAt b)) (I : Intact (netAt b) b) where
         (
           le-ltb maxRecord (length b) size-le,
           (
-            ap not (at-ends b 5 0 40 (length b) ends-there),
+            ap not (at-ends b recordBodies 0 recordHead (length b) ends-there),
             (
               not-eqb _ _ z,
               (

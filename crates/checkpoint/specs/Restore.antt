@@ -14,14 +14,14 @@ use Rattle.replay.specs.Register.{wholeBody, positionBytes}
 use Rattle.replay.specs.State.{State, storedConsumed, storedPair, storedJumpsIn, storedMoved, storedJumps}
 use Rattle.replay.specs.Record.{tableIn, countsSize}
 use Rattle.replay.specs.Calls.{netAt, stateAt}
-use Rattle.replay.specs.Limits.{maxRecord}
+use Rattle.replay.specs.Limits.{maxRecord, recordBodies}
 
 -- 41: the length. 42: the layout. 43: the table is refused.
 abbrev pub tests41 : List ℕ → List (Bool × ℕ)
 tests41 b = (ltb (length b) 40, 41) ∷ (ltb maxRecord (length b), 41) ∷ []
 
 abbrev pub tests42 : List ℕ → List (Bool × ℕ)
-tests42 b = (not (endsAt (length b) (bodiesOf 5 b)), 42) ∷ []
+tests42 b = (not (endsAt (length b) (bodiesOf recordBodies b)), 42) ∷ []
 
 abbrev pub tests43 : List ℕ → List (Bool × ℕ)
 tests43 b = (not (eqb (loadCode (tableIn b)) 0), 43) ∷ []

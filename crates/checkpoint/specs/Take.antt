@@ -13,13 +13,13 @@ use Rattle.net.specs.Held.{netIn, Held}
 use Rattle.replay.specs.Record.{tableIn}
 use Rattle.replay.specs.Calls.{netAt}
 use Rattle.checkpoint.specs.Restore.{restoreTests}
-use Rattle.replay.specs.Limits.{maxRecord}
+use Rattle.replay.specs.Limits.{maxRecord, recordBodies}
 
 -- none of 41 and 42 applies to the record b
 pub record Framed (b : List ℕ) : Type 0 where
   pub size-ge : 40 ≤ length b
   pub size-le : length b ≤ maxRecord
-  pub laid : endsAt (length b) (bodiesOf 5 b) ≡ true
+  pub laid : endsAt (length b) (bodiesOf recordBodies b) ≡ true
 
 -- none of 41 to 43 applies to it, and the words w hold its net
 pub record Opened (b w : List ℕ) : Type 0 where

@@ -29,7 +29,7 @@ use Rattle.checkpoint_judge.specs.Judge.{closedBy, judgeCode, judgeSecond}
 use Rattle.words.proofs.Words.{words-take, word-drop}
 use Rattle.checkpoint.proofs.Spans.{ends-at}
 use Rattle.checkpoint_judge.proofs.Verdicts.{judge-not-43}
-use Rattle.replay.specs.Limits.{maxRecord}
+use Rattle.replay.specs.Limits.{maxRecord, recordBodies, recordHead}
 
 -- a list of tests without its first
 abbrev rest : List (Bool × ℕ) → List (Bool × ℕ)
@@ -86,8 +86,8 @@ word-take s n h = rw (getD-take n s 0 0 (omega arith), getD-take n s 1 0 (omega 
 
 -- where the contents say that the bodies stand
 pub record Spread (b : List ℕ) : Type 0 where
-  pub at0 : word b 0 ≡ 40
-  pub at8 : word b 8 ≡ 40 + word b 4
+  pub at0 : word b 0 ≡ recordHead
+  pub at8 : word b 8 ≡ recordHead + word b 4
   pub at16 : word b 16 ≡ word b 8 + word b 12
   pub at24 : word b 24 ≡ word b 16 + word b 20
   pub at32 : word b 32 ≡ word b 24 + word b 28
@@ -96,7 +96,7 @@ pub record Spread (b : List ℕ) : Type 0 where
 module _ (b : List ℕ) (F : Framed b) where
   pub spread : Spread b
   unfolding bodiesOf
-  spread = let e = ends-at b 5 0 40 (length b) (F .laid) in record { at0 = omega arith; at8 = omega arith; at16 = omega arith; at24 = omega arith; at32 = omega arith; end = omega arith }
+  spread = let e = ends-at b recordBodies 0 recordHead (length b) (F .laid) in record { at0 = omega arith; at8 = omega arith; at16 = omega arith; at24 = omega arith; at32 = omega arith; end = omega arith }
 
   -- the bytes of register, positions, counts and jumps
   abbrev pub ks : List ℕ
@@ -124,7 +124,7 @@ module _ (b : List ℕ) (F : Framed b) where
       go (yes h) = ap (λ (v : ℕ). both (leb 4 (word b 28)) (eqb v 1)) (word-take (drop (word b 24) b) (word b 28) h ∙ word-drop b (word b 24))
       go (no n) = rw (lt-leb 4 (word b 28) (omega arith))
 
-  pub table-part : tableIn b ≡ take (word b 4) (drop 40 b)
+  pub table-part : tableIn b ≡ take (word b 4) (drop recordHead b)
   unfolding tableIn
   table-part = ap (λ (i : ℕ). take (word b 4) (drop i b)) (spread .at0)
 
@@ -210,7 +210,7 @@ module _ (b : List ℕ) where
   unfolding restoreCode
   too-long g h = let e : 41 ≡ restoreCode b = rw (le-ltb (length b) 40 g, lt-ltb maxRecord (length b) h) in (e, alone 41 e refl refl)
 
-  pub not-laid : 40 ≤ length b → length b ≤ maxRecord → endsAt (length b) (bodiesOf 5 b) ≡ false → (42 ≡ restoreCode b) × (0 ≡ restoreSecond b)
+  pub not-laid : 40 ≤ length b → length b ≤ maxRecord → endsAt (length b) (bodiesOf recordBodies b) ≡ false → (42 ≡ restoreCode b) × (0 ≡ restoreSecond b)
   unfolding restoreCode
   not-laid g h e = let q : 42 ≡ restoreCode b = rw (le-ltb (length b) 40 g, le-ltb maxRecord (length b) h, e) in (q, alone 42 q refl refl)
 

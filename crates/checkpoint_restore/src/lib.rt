@@ -6,6 +6,8 @@ use checkpoint::Saved;
 use checkpoint_judge::judge;
 use net::NET_WORDS;
 use net::NetWords;
+use replay_layout::BODIES;
+use replay_layout::HEAD;
 use replay_layout::MAX_RECORD;
 use words::wide;
 ghost use mathlib.Core.Path.{_≡_};
@@ -39,8 +41,8 @@ fn check_table(rec: &[u8], t: &mut NetWords) -> RestoreAnswer
     ensures { λ r. ⌜ restoreAnswerSecond r ≡ restoreSecond (now (rec .entry)) ⌝ }
     ensures { λ _. ⌜ (restoreCode (now (rec .entry)) ≡ 0 → Opened (now (rec .entry)) (now (t .exit))) ⌝ }
 {
-    let end = 40 + wide(words::word_at(rec, 4));
-    let n = net::code(net_loader::load_fresh(&rec[40..end], t));
+    let end = HEAD + wide(words::word_at(rec, 4));
+    let n = net::code(net_loader::load_fresh(&rec[HEAD..end], t));
     if n != 0 {
         return RestoreAnswer::Table(n);
     }
@@ -60,7 +62,7 @@ pub fn check(rec: &[u8], t: &mut NetWords) -> RestoreAnswer
     if MAX_RECORD < rec.len() {
         return RestoreAnswer::Length;
     }
-    if !words::laid_out(rec, 5) {
+    if !words::laid_out(rec, BODIES) {
         return RestoreAnswer::Layout;
     }
     check_table(rec, t)

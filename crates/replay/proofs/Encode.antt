@@ -18,7 +18,7 @@ use Rattle.replay.specs.Record.{counts, countsSize, kindsAt, placesAt, c
 use Rattle.replay.proofs.Accepted.{closers-length}
 use Rattle.replay.proofs.Interleave.{length-interleave, All-interleave, evens-interleave, odds-interleave}
 use Rattle.net.specs.Limits.{maxTable}
-use Rattle.replay.specs.Limits.{maxRecord}
+use Rattle.replay.specs.Limits.{maxRecord, recordHead}
 
 -- a number of 32 bits
 abbrev pub Fits : ℕ → Type 0
@@ -108,7 +108,7 @@ counts-size N d S = omega (arith, length-interleave (d .fired) (d .jumps) (S .fi
 
 -- what stands where in a checkpoint of the table and the state
 pub record Laid (b table : List ℕ) (d : State) : Type 0 where
-  pub table-at : word b 0 ≡ 40
+  pub table-at : word b 0 ≡ recordHead
   pub table-len : word b 4 ≡ length table
   pub kinds-at : word b 8 ≡ kindsAt table d
   pub kinds-len : word b 12 ≡ 4 * length (d .kinds)
@@ -119,7 +119,7 @@ pub record Laid (b table : List ℕ) (d : State) : Type 0 where
   pub pairs-at : word b 32 ≡ pairsAt table d
   pub pairs-len : word b 36 ≡ 4 * length (d .pairs)
   pub size : length b ≡ recordSize table d
-  pub table-is : take (length table) (drop 40 b) ≡ table
+  pub table-is : take (length table) (drop recordHead b) ≡ table
   pub kinds-are : wordsFrom b (kindsAt table d) (length (d .kinds)) ≡ d .kinds
   pub places-are : wordsFrom b (placesAt table d) (length (d .places)) ≡ d .places
   pub counts-are : wordsFrom b (countsAt table d) (length (counts d)) ≡ counts d
@@ -174,7 +174,7 @@ module _ (N : Net) (L : Loaded N) (table : List ℕ) (d : State) (S : Sound N d)
       r0 : List ℕ
       r0 = table ++ r1
 
-      s1 : Seg (bytesOf h ++ r0) 40 r0
+      s1 : Seg (bytesOf h ++ r0) recordHead r0
       s1 = seg-next h r0 (seg-all (bytesOf h ++ r0))
 
       s2 : Seg (bytesOf h ++ r0) (kindsAt table d) r1

@@ -5,6 +5,7 @@ use mathlib.Core.List.{List, [], _∷_, _++_}
 use lib.ListN.{length, take, drop}
 use Rattle.words.specs.Words.{word, wordsOf, bytesOf}
 use Rattle.net.specs.Net.{Net}
+use Rattle.replay.specs.Limits.{recordHead}
 use Rattle.replay.specs.State.{State, stateFrom}
 use Rattle.replay.specs.Sound.{Sound}
 use Rattle.net.specs.Limits.{maxTable}
@@ -33,7 +34,7 @@ countsSize N = 3 + 2 * N .acts
 module _ (table : List ℕ) (d : State) where
   -- where the bodies behind the table start, and where the last one ends
   abbrev pub kindsAt : ℕ
-  kindsAt = 40 + length table
+  kindsAt = recordHead + length table
 
   abbrev pub placesAt : ℕ
   placesAt = kindsAt + 4 * length (registerBody d)
@@ -49,7 +50,7 @@ module _ (table : List ℕ) (d : State) where
 
   -- the five pairs (start, length): table, register, positions, counts, jumps
   abbrev pub contents : List ℕ
-  contents = 40 ∷ length table ∷ kindsAt ∷ 4 * length (registerBody d) ∷ placesAt ∷ 4 * length (positionsBody d) ∷ countsAt ∷ 4 * length (counts d) ∷ pairsAt ∷ 4 * length (d .pairs) ∷ []
+  contents = recordHead ∷ length table ∷ kindsAt ∷ 4 * length (registerBody d) ∷ placesAt ∷ 4 * length (positionsBody d) ∷ countsAt ∷ 4 * length (counts d) ∷ pairsAt ∷ 4 * length (d .pairs) ∷ []
 
   -- the record's bytes
   unfoldable pub encode : List ℕ

@@ -21,11 +21,11 @@ use Rattle.replay.specs.Ready.{Ready}
 use Rattle.replay.proofs.Interleave.{length-interleave, interleave-even, interleave-odd, interleave-set-even, interleave-set-odd}
 use Rattle.replay.proofs.Encode.{Laid, intact-laid, counts-size, words-encode, bytes-encode}
 use Rattle.net.specs.Limits.{maxTable}
-use Rattle.replay.specs.Limits.{maxWords}
+use Rattle.replay.specs.Limits.{maxWords, recordHead, headWords}
 
 -- l is the layout of a record of a table and the state d, of the net N: how large the parts are, and what follows what
 pub record Placed (N : Net) (table : List ℕ) (l : Layout) (d : State) : Type 0 where
-  pub register-at : 10 + length (wordsOf table) ≡ l .register
+  pub register-at : headWords + length (wordsOf table) ≡ l .register
   pub positions-at : kindAt N l (l .objects) ≡ l .positions
   pub counts-at : placeAt l (l .objects) ≡ l .counts
   pub pairs-at : l .counts + countsSize N ≡ l .pairs
@@ -74,7 +74,7 @@ set-past (x ∷ xs) ys m i v e = ap (λ (k : ℕ). set (x ∷ (xs ++ ys)) k v) (
 
 -- four bodies behind the contents and the table
 abbrev front : ℕ → ℕ → ℕ → ℕ → ℕ → List ℕ
-front t k p c j = 40 ∷ t ∷ (40 + t) ∷ 4 * k ∷ (40 + t + 4 * k) ∷ 4 * p ∷ (40 + t + 4 * k + 4 * p) ∷ 4 * c ∷ (40 + t + 4 * k + 4 * p + 4 * c) ∷ 4 * j ∷ []
+front t k p c j = recordHead ∷ t ∷ (recordHead + t) ∷ 4 * k ∷ (recordHead + t + 4 * k) ∷ 4 * p ∷ (recordHead + t + 4 * k + 4 * p) ∷ 4 * c ∷ (recordHead + t + 4 * k + 4 * p + 4 * c) ∷ 4 * j ∷ []
 
 abbrev four : List ℕ → List ℕ → List ℕ → List ℕ → List ℕ → List ℕ
 four table ks ps cs js = front (length table) (length ks) (length ps) (length cs) (length js) ++ (wordsOf table ++ (ks ++ (ps ++ (cs ++ js))))
@@ -83,7 +83,7 @@ module _ (table ks ps cs js : List ℕ) where
   abbrev head : List ℕ
   head = front (length table) (length ks) (length ps) (length cs) (length js)
 
-  four-size : length (four table ks ps cs js) ≡ 10 + length (wordsOf table) + length ks + length ps + length cs + length js
+  four-size : length (four table ks ps cs js) ≡ headWords + length (wordsOf table) + length ks + length ps + length cs + length js
   four-size = simp length-append (omega arith)
 
   -- what stands behind the contents, the table, the first and the second body
@@ -99,41 +99,41 @@ module _ (table ks ps cs js : List ℕ) where
   abbrev r0 : List ℕ
   r0 = wordsOf table ++ r1
 
-  at-ks : (m o : ℕ) → m ≡ 10 + length (wordsOf table) + o → o < length ks → getD (four table ks ps cs js) m 0 ≡ getD ks o 0
+  at-ks : (m o : ℕ) → m ≡ headWords + length (wordsOf table) + o → o < length ks → getD (four table ks ps cs js) m 0 ≡ getD ks o 0
   at-ks m o e h = past head r0 m (length (wordsOf table) + o) (omega arith) ∙ past (wordsOf table) r1 _ o refl ∙ List·getD-append ks r2 0 o h
 
-  at-ps : (m o : ℕ) → m ≡ 10 + length (wordsOf table) + length ks + o → o < length ps → getD (four table ks ps cs js) m 0 ≡ getD ps o 0
+  at-ps : (m o : ℕ) → m ≡ headWords + length (wordsOf table) + length ks + o → o < length ps → getD (four table ks ps cs js) m 0 ≡ getD ps o 0
   at-ps m o e h = past head r0 m (length (wordsOf table) + (length ks + o)) (omega arith) ∙ past (wordsOf table) r1 _ (length ks + o) refl ∙ past ks r2 _ o refl ∙ List·getD-append ps r3 0 o h
 
-  at-cs : (m o : ℕ) → m ≡ 10 + length (wordsOf table) + length ks + length ps + o → o < length cs → getD (four table ks ps cs js) m 0 ≡ getD cs o 0
+  at-cs : (m o : ℕ) → m ≡ headWords + length (wordsOf table) + length ks + length ps + o → o < length cs → getD (four table ks ps cs js) m 0 ≡ getD cs o 0
   at-cs m o e h =
       past head r0 m (length (wordsOf table) + (length ks + (length ps + o))) (omega arith) ∙ past (wordsOf table) r1 _ (length ks + (length ps + o)) refl
       ∙ past ks r2 _ (length ps + o) refl ∙ past ps r3 _ o refl ∙ List·getD-append cs js 0 o h
 
-  at-js : (m o : ℕ) → m ≡ 10 + length (wordsOf table) + length ks + length ps + length cs + o → getD (four table ks ps cs js) m 0 ≡ getD js o 0
+  at-js : (m o : ℕ) → m ≡ headWords + length (wordsOf table) + length ks + length ps + length cs + o → getD (four table ks ps cs js) m 0 ≡ getD js o 0
   at-js m o e =
       past head r0 m (length (wordsOf table) + (length ks + (length ps + (length cs + o)))) (omega arith) ∙ past (wordsOf table) r1 _ (length ks + (length ps + (length cs + o))) refl
       ∙ past ks r2 _ (length ps + (length cs + o)) refl ∙ past ps r3 _ (length cs + o) refl ∙ past cs js _ o refl
 
-  at-r3 : (m o : ℕ) → m ≡ 10 + length (wordsOf table) + length ks + length ps + o → getD (four table ks ps cs js) m 0 ≡ getD r3 o 0
+  at-r3 : (m o : ℕ) → m ≡ headWords + length (wordsOf table) + length ks + length ps + o → getD (four table ks ps cs js) m 0 ≡ getD r3 o 0
   at-r3 m o e =
       past head r0 m (length (wordsOf table) + (length ks + (length ps + o))) (omega arith)
       ∙ past (wordsOf table) r1 _ (length ks + (length ps + o)) refl
       ∙ past ks r2 _ (length ps + o) refl
       ∙ past ps r3 _ o refl
 
-  set-ps : (m o v : ℕ) → m ≡ 10 + length (wordsOf table) + length ks + o → o < length ps → set (four table ks ps cs js) m v ≡ four table ks (set ps o v) cs js
+  set-ps : (m o v : ℕ) → m ≡ headWords + length (wordsOf table) + length ks + o → o < length ps → set (four table ks ps cs js) m v ≡ four table ks (set ps o v) cs js
   set-ps m o v e h = rw (length-set ps o v)
       (set-past head r0 m (length (wordsOf table) + (length ks + o)) v (omega arith)
       ∙ ap (λ (r : List ℕ). head ++ r) (set-past (wordsOf table) r1 _ (length ks + o) v refl ∙ ap (λ (r : List ℕ). wordsOf table ++ r) (set-past ks r2 _ o v refl ∙ ap (λ (r : List ℕ). ks ++ r) (set-append-left ps r3 o v h))))
 
-  set-cs : (m o v : ℕ) → m ≡ 10 + length (wordsOf table) + length ks + length ps + o → o < length cs → set (four table ks ps cs js) m v ≡ four table ks ps (set cs o v) js
+  set-cs : (m o v : ℕ) → m ≡ headWords + length (wordsOf table) + length ks + length ps + o → o < length cs → set (four table ks ps cs js) m v ≡ four table ks ps (set cs o v) js
   set-cs m o v e h = rw (length-set cs o v)
       (set-past head r0 m (length (wordsOf table) + (length ks + (length ps + o))) v (omega arith)
       ∙ ap (λ (r : List ℕ). head ++ r) (set-past (wordsOf table) r1 _ (length ks + (length ps + o)) v refl ∙ ap (λ (r : List ℕ). wordsOf table ++ r) (set-past ks r2 _ (length ps + o) v refl
       ∙ ap (λ (r : List ℕ). ks ++ r) (set-past ps r3 _ o v refl ∙ ap (λ (r : List ℕ). ps ++ r) (set-append-left cs js o v h)))))
 
-  set-js : (m o v : ℕ) → m ≡ 10 + length (wordsOf table) + length ks + length ps + length cs + o → set (four table ks ps cs js) m v ≡ four table ks ps cs (set js o v)
+  set-js : (m o v : ℕ) → m ≡ headWords + length (wordsOf table) + length ks + length ps + length cs + o → set (four table ks ps cs js) m v ≡ four table ks ps cs (set js o v)
   set-js m o v e = rw (length-set js o v)
       (set-past head r0 m (length (wordsOf table) + (length ks + (length ps + (length cs + o)))) v (omega arith)
       ∙ ap (λ (r : List ℕ). head ++ r) (set-past (wordsOf table) r1 _ (length ks + (length ps + (length cs + o))) v refl ∙ ap (λ (r : List ℕ). wordsOf table ++ r) (set-past ks r2 _ (length ps + (length cs + o)) v refl
@@ -277,7 +277,7 @@ module _ (w b : List ℕ) (R : Ready w b) where
     places-few = ready-loaded .places-le;
   }
 
-  pub ready-contents : 40 ≤ length b
+  pub ready-contents : recordHead ≤ length b
   ready-contents = omega (arith, ready-laid .size)
 
   pub ready-length : length b ≡ 4 * length (wordsOf b)

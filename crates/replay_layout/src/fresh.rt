@@ -1,5 +1,7 @@
 // The record of a trail that is just started: how many bytes it takes, and where its bodies stand, each behind the one before it.
 
+use super::HEAD;
+use super::HEAD_WORDS;
 use super::Layout;
 use super::counts_bytes;
 use super::pairs_bytes;
@@ -17,7 +19,7 @@ pub fn record_bytes(t: &NetWords, table: usize, register: &[u8]) -> usize
     ensures { λ r. ⌜ r ≡ freshBytes (netIn (now (t .entry))) table (now (register .entry)) ⌝ }
 {
     let positions = replay_rows::position_bytes(replay_rows::objects(register, t));
-    40 + table + register.len() + positions + counts_bytes(t) + pairs_bytes(t)
+    HEAD + table + register.len() + positions + counts_bytes(t) + pairs_bytes(t)
 }
 
 // Where the bodies stand, by how many numbers the table has and by the register.
@@ -27,7 +29,7 @@ pub fn layout(t: &NetWords, table: usize, register: &[u8]) -> Layout
     ensures { λ r. ⌜ r ≡ freshLayout (netIn (now (t .entry))) table (now (register .entry)) ⌝ }
 {
     let n = replay_rows::objects(register, t);
-    let kinds = 10 + table;
+    let kinds = HEAD_WORDS + table;
     let places = kinds + register.len() / 4;
     let counts = places + replay_rows::position_bytes(n) / 4;
     Layout {

@@ -10,11 +10,18 @@ ghost use lib.ListN.{length, getD};
 ghost use Rattle.words.specs.Words.{word, wordsOf};
 ghost use Rattle.words.specs.Put.{Put};
 ghost use Rattle.net.specs.Held.{netIn, Held};
-ghost use Rattle.replay.specs.Limits.{maxWords};
+ghost use Rattle.replay.specs.Limits.{maxWords, recordHead};
 ghost use Rattle.replay.specs.Record.{countsSize};
 ghost use Rattle.replay_layout.specs.Offsets.{layoutOf, kindAt, placeAt, closedAt, eventsAt, closingAt, firedAt, jumpsAt, pairAt};
 
 pub mod fresh;
+
+// Bodies of a desk record; bytes and numbers of its contents, a pair for each.
+pub const BODIES: usize = 5;
+
+pub const HEAD: usize = 8 * BODIES;
+
+pub const HEAD_WORDS: usize = 2 * BODIES;
 
 // Bytes of the longest desk record.
 pub const MAX_RECORD: usize = 29844;
@@ -50,7 +57,7 @@ fn quarter(rec: &[u8], at: usize) -> usize
 // The layout that a record's contents give, with the number of places of its net.
 pub fn read_layout(rec: &[u8], t: &NetWords) -> Layout
     requires { ⌜ Held (now t) ⌝ }
-    requires { ⌜ 40 ≤ length (now rec) ⌝ }
+    requires { ⌜ recordHead ≤ length (now rec) ⌝ }
     ensures { λ r. ⌜ r ≡ layoutOf (netIn (now (t .entry))) (now (rec .entry)) ⌝ }
 {
     Layout {

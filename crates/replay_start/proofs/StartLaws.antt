@@ -17,6 +17,7 @@ use Rattle.net.specs.Table.{netOf}
 use Rattle.net.specs.Held.{netIn}
 use Rattle.net.proofs.Promise.{promise, table-size}
 use Rattle.words.proofs.Sets.{sets-all}
+use Rattle.replay.specs.Limits.{headWords}
 use Rattle.replay.specs.Plain.{registerTests, registerCode}
 use Rattle.replay.specs.State.{State, startState}
 use Rattle.replay.specs.Sound.{Sound}
@@ -101,12 +102,12 @@ module _ (t table objects : List ℕ) (S : Startable t table objects) (ok : regi
 
   -- and how many numbers
   pub words-size : (out : List ℕ) → length out ≡ length (startRecord table (kindsIn (netOf table) objects))
-      → length (wordsOf out) ≡ 10 + length table / 4 + length (kindsIn (netOf table) objects) + length (kindsIn (netOf table) objects) + countsSize (netIn t) + netIn t .places * netIn t .places
+      → length (wordsOf out) ≡ headWords + length table / 4 + length (kindsIn (netOf table) objects) + length (kindsIn (netOf table) objects) + countsSize (netIn t) + netIn t .places * netIn t .places
   words-size out e = let h : length table % 4 ≡ 0 = table-size table (S .tabled .taken) .2 in omega (arith, length-words out, record-size, rows)
 
   -- the numbers that starting stores, as one list
   module _ (w : List ℕ) (b c p : ℕ) (bs : b ≡ positionBytes (length (kindsIn (netOf table) objects))) (cs : c ≡ 4 * countsSize (netIn t)) (ps : p ≡ 4 * (netIn t .places * netIn t .places))
-      (size : length w ≡ 10 + length table / 4 + length (kindsIn (netOf table) objects) + length (kindsIn (netOf table) objects) + countsSize (netIn t) + netIn t .places * netIn t .places)
+      (size : length w ≡ headWords + length table / 4 + length (kindsIn (netOf table) objects) + length (kindsIn (netOf table) objects) + countsSize (netIn t) + netIn t .places * netIn t .places)
       (l : Layout) (e : l ≡ freshLayout (netIn t) (length table / 4) objects) where
     heads : contentsOf (length table) (length objects) b c p ≡ contents table (begun table objects)
     heads = cc (
@@ -123,12 +124,12 @@ module _ (t table objects : List ℕ) (S : Startable t table objects) (ok : regi
     tails = sym (rest-zeros (netOf table .acts) (netOf table .places * netOf table .places) (c / 4 + p / 4)
         (omega (arith, cs ∙ ap (λ (N : Net). 4 * countsSize N) (S .tabled .net), ps ∙ ap (λ (N : Net). 4 * (N .places * N .places)) (S .tabled .net))))
 
-    pub stored : sets (sets (sets (sets (sets w 0 (contentsOf (length table) (length objects) b c p)) 10 (wordsOf table)) (l .register) (kindsIn (netOf table) objects)) (l .positions) (map (netIn t .source) (kindsIn (netOf table) objects)))
+    pub stored : sets (sets (sets (sets (sets w 0 (contentsOf (length table) (length objects) b c p)) headWords (wordsOf table)) (l .register) (kindsIn (netOf table) objects)) (l .positions) (map (netIn t .source) (kindsIn (netOf table) objects)))
         (l .counts) (replicate (c / 4 + p / 4) 0) ≡ recordWords table (begun table objects)
     stored =
         let r = ap (λ (l : Layout). l .register) e in let q = ap (λ (l : Layout). l .positions) e in let n = ap (λ (l : Layout). l .counts) e in
         five w (contentsOf (length table) (length objects) b c p) (wordsOf table) (kindsIn (netOf table) objects) (map (netIn t .source) (kindsIn (netOf table) objects)) (replicate (c / 4 + p / 4) 0)
-        10 (l .register) (l .positions) (l .counts)
+        headWords (l .register) (l .positions) (l .counts)
         refl (omega (arith, r, length-words table)) (omega (arith, r, q, rows)) (omega (arith, q, n, length-map (kindsIn (netOf table) objects) (netIn t .source)))
         (omega (arith, n, rows, length-replicate {A = ℕ} (c / 4 + p / 4) 0))
         ∙ cc (heads, tails, ap (λ (N : Net). map (N .source) (kindsIn (netOf table) objects)) (S .tabled .net))

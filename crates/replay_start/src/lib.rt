@@ -3,6 +3,8 @@
 // definitions its contracts cite. The program and the C calls start by it.
 
 use net::NetWords;
+use replay_layout::HEAD;
+use replay_layout::HEAD_WORDS;
 use replay_layout::Layout;
 use replay_layout::fresh;
 use replay_layout::put_place;
@@ -16,6 +18,7 @@ ghost use Rattle.words.specs.Lists.{All};
 ghost use Rattle.words.specs.Words.{wordsOf};
 ghost use Rattle.net.specs.Held.{netIn, Held};
 ghost use Rattle.net.specs.Table.{netOf};
+ghost use Rattle.replay.specs.Limits.{headWords};
 ghost use Rattle.replay.specs.Plain.{registerCode};
 ghost use Rattle.replay.specs.Calls.{startRecord, startCode, startBytes};
 ghost use Rattle.replay_start.specs.StartAnswers.{startAnswerCode};
@@ -53,14 +56,14 @@ fn put_contents(
     counts: usize,
     pairs: usize,
 )
-    requires { ⌜ 10 ≤ length (wordsOf (now out)) ⌝ }
+    requires { ⌜ headWords ≤ length (wordsOf (now out)) ⌝ }
     requires { ⌜ (table ≤ 20000) × (register ≤ 20000) × (positions ≤ 20000) × (counts ≤ 20000) × (pairs ≤ 20000) ⌝ }
     ensures { λ _. ⌜ wordsOf (now (out .exit)) ≡ sets (wordsOf (now (out .entry))) 0 (contentsOf table register positions counts pairs) ⌝ }
 {
-    let kinds = 40 + table;
+    let kinds = HEAD + table;
     let places = kinds + register;
     let tail = places + positions;
-    put_pair(out, 0, 40, table);
+    put_pair(out, 0, HEAD, table);
     put_pair(out, 2, kinds, register);
     put_pair(out, 4, places, positions);
     put_pair(out, 6, tail, counts);
@@ -131,7 +134,7 @@ fn fill(t: &NetWords, table: &[u8], objects: &[u8], out: &mut [u8])
     let lay = fresh::layout(t, table.len() / 4, objects);
     let positions = replay_rows::position_bytes(lay.objects);
     put_contents(out, table.len(), objects.len(), positions, counts, pairs);
-    copy_words(table, out, 10);
+    copy_words(table, out, HEAD_WORDS);
     copy_words(objects, out, lay.register);
     put_sources(t, objects, out, lay);
     put_zeros(out, lay.counts, counts / 4 + pairs / 4);

@@ -7,6 +7,7 @@ use lib.ListN.{take, drop}
 use Rattle.words.specs.Words.{word}
 use Rattle.net.specs.Table.{loadCode}
 use Rattle.net.specs.Held.{loadedWords}
+use Rattle.replay.specs.Limits.{recordHead}
 use Rattle.replay.specs.Record.{tableIn}
 use Rattle.checkpoint.specs.Take.{Opened}
 use Rattle.checkpoint_restore.proofs.Opening.{spread, opened, table-refused, table-part}
@@ -14,11 +15,11 @@ use borrow.Author.Needs.{needs}
 use Rattle.checkpoint_restore.proofs.check_table.Statement.{statement}
 use Rattle.checkpoint_restore.proofs.check_table.Tie as tie
 
-table-is : (c : tie.After-wide) → take (40 + c .wide .result - 40) (drop 40 (c .before .before .before .args .rec .now)) ≡ tableIn (c .before .before .before .args .rec .now)
+table-is : (c : tie.After-wide) → take (recordHead + c .wide .result - recordHead) (drop recordHead (c .before .before .before .args .rec .now)) ≡ tableIn (c .before .before .before .args .rec .now)
 table-is c =
     let b : List ℕ = c .before .before .before .args .rec .now in
-    let e : 40 + c .wide .result - 40 ≡ word b 4 = omega (arith, c .wide .ensures, c .before .word-at .ensures) in
-    ap (λ (n : ℕ). take n (drop 40 b)) e ∙ sym (table-part b (c .before .before .before .pre .0))
+    let e : recordHead + c .wide .result - recordHead ≡ word b 4 = omega (arith, c .wide .ensures, c .before .word-at .ensures) in
+    ap (λ (n : ℕ). take n (drop recordHead b)) e ∙ sym (table-part b (c .before .before .before .pre .0))
 
 code-is : (c : tie.After-code) → c .code .result ≡ loadCode (tableIn (c .before .before .before .before .before .before .before .args .rec .now))
 code-is c = c .code .ensures ∙ c .before .load-fresh .ensures .0 ∙ ap loadCode (table-is (c .before .before .before .before))

@@ -6,6 +6,7 @@ use lib.ListN.{length}
 use Rattle.words.specs.Words.{wordsOf}
 use Rattle.words.proofs.Words.{length-words}
 use Rattle.net.specs.Held.{netIn}
+use Rattle.replay.specs.Limits.{headWords}
 use Rattle.replay.specs.Register.{kindsIn, positionBytes}
 use Rattle.replay_layout.specs.declared.Layout.{Layout}
 use Rattle.replay_layout.specs.Fresh.{freshLayout}
@@ -18,13 +19,13 @@ use Rattle.replay_start.proofs.fill.Tie as tie
 laid : (c : tie.After-position-bytes) → let a = c .before .before .before .before .before .before .before .args in c .before .layout .result ≡ freshLayout (netIn (a .t .now)) (length (a .table .now) / 4) (a .objects .now)
 laid c = c .before .layout .ensures
 
-register-at : (c : tie.After-position-bytes) → c .before .layout .result .register ≡ 10 + length (c .before .before .before .before .before .before .before .args .table .now) / 4
+register-at : (c : tie.After-position-bytes) → c .before .layout .result .register ≡ headWords + length (c .before .before .before .before .before .before .before .args .table .now) / 4
 register-at c = ap (λ (l : Layout). l .register) (laid c)
 
 counts-at : (c : tie.After-position-bytes) → let a = c .before .before .before .before .before .before .before .args in c .before .layout .result .counts ≡ c .before .layout .result .positions + length (kindsIn (netIn (a .t .now)) (a .objects .now))
 counts-at c = omega (arith, ap (λ (l : Layout). l .counts) (laid c), ap (λ (l : Layout). l .positions) (laid c))
 
-positions-at : (c : tie.After-position-bytes) → let a = c .before .before .before .before .before .before .before .args in c .before .layout .result .positions ≡ 10 + length (a .table .now) / 4 + length (kindsIn (netIn (a .t .now)) (a .objects .now))
+positions-at : (c : tie.After-position-bytes) → let a = c .before .before .before .before .before .before .before .args in c .before .layout .result .positions ≡ headWords + length (a .table .now) / 4 + length (kindsIn (netIn (a .t .now)) (a .objects .now))
 positions-at c = let s = c .before .before .before .before .before .before .before in omega (arith, ap (λ (l : Layout). l .positions) (laid c), register-rows _ _ _ (s .pre .0) (s .pre .1 .0) .whole)
 
 positions-are : (c : tie.After-position-bytes) → let a = c .before .before .before .before .before .before .before .args in c .position-bytes .result ≡ positionBytes (length (kindsIn (netIn (a .t .now)) (a .objects .now)))
