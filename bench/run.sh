@@ -1,7 +1,7 @@
 #!/usr/bin/env bash
 # Builds the library, the program and the baseline, and measures them side by side.   run.sh [REPETITIONS]
 # On both sides of a call each function starts at a multiple of 64 bytes, so that no figure hangs on where the linker puts it. The
-# loops of an event stay where the compiler puts them, and the same code takes up to 5 % more or less by how they lie in the
+# loops of an event stay where the compiler puts them, and the same code takes 2 to 7 % more or less by how they lie in the
 # processor's lines of 64 bytes. So the library's function is there eight times, 0, 8, .. 56 bytes behind the start of a line, and
 # repetition after repetition takes the next one.
 set -eu
