@@ -1,5 +1,5 @@
-// FIT, 1 - jumps/transfers in thousandths, rounded down, and its text over the start of lent bytes. Above `digits`, whose table
-// gives three digits at once; `text` puts it into fields.
+// FIT, 1 - jumps/transfers in thousandths, rounded down, and its text over the start of lent bytes. Above `digits`, which gives
+// three digits at once; `text` puts it into fields.
 
 ghost use mathlib.Core.Path.{_≡_};
 ghost use Prim.Native.Nat.{_-_, _≤_};
