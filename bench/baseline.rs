@@ -635,7 +635,8 @@ fn line(out: &mut Vec<u8>, name: &str, numbers: &[u32], fitness: Option<(u32, u3
         if transfers == 0 {
             out.push(b'-');
         } else {
-            let thousandths = (1000 * (transfers - jumps) as u64 / transfers as u64) as u32;
+            let nearest = (2000 * (transfers - jumps) as u64 + transfers as u64) / (2 * transfers as u64);
+            let thousandths = if jumps == 0 { 1000 } else { nearest.min(999) as u32 };
             let digit = |n: u32| b'0' + (n % 10) as u8;
             out.extend_from_slice(&[digit(thousandths / 1000), b'.']);
             out.extend_from_slice(&[digit(thousandths / 100), digit(thousandths / 10), digit(thousandths)]);

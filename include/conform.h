@@ -115,12 +115,16 @@ uint64_t conform_restore(const uint8_t *record, size_t record_len, uint8_t *trai
 uint64_t conform_save(const uint8_t *trail, size_t trail_len, uint8_t *record, size_t record_len);
 
 /* THE SHEET. Each call writes one line in front of `line`, in ASCII, with its line feed and no 0 byte behind it;
- * CONFORM_SECOND is its length, bytes behind it stay. Open trails have lines too. FIT is written as 0.900, 1.000, or - .
+ * CONFORM_SECOND is its length, bytes behind it stay. Open trails have lines too.
  *   trail OBJECTS EVENTS JUMPS TRANSFERS FIT
  *   place NUMBER TAKEN IN OUT FIT
  *   act NUMBER FIRED MOVED JUMPS FIT
  *   jump FROM TO COUNT          a count of 0 writes nothing: 0 bytes, taken even where line_len is 0
- * A whole sheet has the trail's line, all places, all activities and then all pairs of places. FIT is rounded down.
+ * A whole sheet has the trail's line, all places, all activities and then all pairs of places.
+ *
+ * FIT is 1 - JUMPS/TRANSFERS, 1 - IN/TAKEN or 1 - JUMPS/MOVED, written as 0.900 or 1.000, or as - where the divisor is 0. It is
+ * rounded to the nearest thousandth, halves upward, but with one jump or more never above 0.999: 1 jump of 3 transfers gives
+ * 0.667, 1 of 2,000 gives 0.999, and 1.000 means no jump at all.
  *
  *   41 to 47  the trail, as above
  *   51  unknown place (conform_place_line, conform_jump_line)

@@ -623,6 +623,57 @@ fn fixed_cases(c: &mut Check) {
     demand!(c, own == trail, "a refused event changed the trail");
 }
 
+/// The lines of the trail, of a place and of an activity that count so many jumps in so many transfers, and their FIT.
+fn figure(c: &mut Check, jumps: u64, transfers: u64) -> String {
+    // one object and one activity, from place 0 to place 1
+    let table = oracle::file_of(&[bytes_of(&[0, 1]), bytes_of(&[0, 0]), bytes_of(&[1]), bytes_of(&[0, 1])]);
+    let mut replay = Replay::start(&table, &[0]).unwrap();
+    (replay.events, replay.fired[0], replay.jumps[0], replay.pairs[1][0]) = (transfers, transfers, jumps, jumps);
+    let trail = replay.save();
+    let shown = oracle::fitness(jumps, transfers);
+    let lengths = [replay.trail_line(), replay.place_line(0).unwrap(), replay.act_line(0).unwrap()].map(|line| {
+        demand!(c, line.ends_with(&format!(" {shown}\n")), "the test itself: a line counts other jumps or transfers");
+        line.len()
+    });
+    let [of_trail, of_place, of_act] = lengths;
+    let answers = [c.trail_line(&trail, of_trail), c.place_line(&trail, 0, of_place), c.act_line(&trail, 0, of_act)];
+    demand!(c, answers == lengths.map(|length| (length as u64) << 32), "a line with FIT is refused");
+    shown
+}
+
+/// FIT to the nearest thousandth (A.7): the figures of T13 and A.7, all pairs up to 60, and large ones, halves among them.
+fn figures(c: &mut Check) {
+    c.what = "T13 and the figures of A.7".to_string();
+    #[rustfmt::skip]
+    let known = [
+        (4, 10, "0.600"), (1, 3, "0.667"), (1, 100_000, "0.999"), (1, 2000, "0.999"), (1, MAX_EVENTS, "0.999"), (3, 2000, "0.999"),
+        (1, 16, "0.938"), (0, 1, "1.000"), (0, MAX_EVENTS, "1.000"), (7, 7, "0.000"), (MAX_EVENTS, MAX_EVENTS, "0.000"), (0, 0, "-"),
+    ];
+    for (jumps, transfers, text) in known {
+        demand!(c, figure(c, jumps, transfers) == text, &format!("{jumps} of {transfers} is {text}"));
+    }
+    c.what = "FIT, all pairs up to 60".to_string();
+    for transfers in 0..=60 {
+        for jumps in 0..=transfers {
+            figure(c, jumps, transfers);
+        }
+    }
+    c.what = "FIT, large numbers".to_string();
+    let mut rng = Rng::new(c.seed);
+    for _ in 0..500 {
+        let transfers = 1 + rng.next() % MAX_EVENTS;
+        let (any, few) = (rng.next() % (transfers + 1), rng.next() % (transfers / 1000 + 1));
+        figure(c, rng.pick(&[any, few, transfers - few]), transfers);
+        // in sixteenths, eightieths and so on FIT is a whole number of half thousandths; one jump beside a half it goes up or down
+        let parts = rng.pick(&[16, 80, 400, 2000]);
+        let times = 1 + rng.next() % (MAX_EVENTS / parts);
+        let half = times * (rng.next() % (parts + 1));
+        for jumps in [half.saturating_sub(1), half, (half + 1).min(times * parts)] {
+            figure(c, jumps, times * parts);
+        }
+    }
+}
+
 /// The parts of a run: what a round tries, and how.
 type Round = fn(&mut Check, &mut Rng);
 const PARTS: [(&str, Round); 6] = [
@@ -672,6 +723,7 @@ fn main() {
     println!("client_test {rounds} {seed}");
     let mut c = Check { seed, what: String::new(), calls: 0, answers: BTreeMap::new(), shift: 0 };
     fixed_cases(&mut c);
+    figures(&mut c);
     for round in 0..rounds {
         c.seed = seed.wrapping_add(round);
         let mut rng = Rng::new(c.seed);

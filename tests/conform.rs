@@ -147,6 +147,7 @@ fn examples(c: &mut Check, folder: &Path) {
     let firsts = [
         ("T3", "trail 3 6 0 11 1.000"),
         ("T4", "trail 3 5 1 10 0.900"),
+        ("three-sheets", "trail 4 7 1 14 0.929"),
         ("T6", "trail 1 0 1 1 0.000"),
         ("trading-1", "trail 3 5 0 9 1.000"),
         ("trading-2", "trail 4 4 4 10 0.600"),
@@ -172,8 +173,21 @@ fn hand_counted(c: &mut Check) {
     c.expect("T11, 1,025 objects", &table_m(), &trace_file(&[1; 1025], &[]), "refused 11 0");
     c.expect("T11, 64 places", &small_table(64), &trace_file(&[0], &[]), "trail 1 0 1 1 0.000");
     c.expect("T11, 65 places", &small_table(65), &trace_file(&[0], &[]), "refused 3 0");
-    // one jump and then none, of so many transfers
-    for (transfers, figure) in [(2, "0.500"), (3, "0.666"), (7, "0.857"), (1000, "0.999"), (1001, "0.999"), (100_000, "0.999")] {
+    // one jump and then none, of so many transfers: to the nearest thousandth, halves upward, but not to 1.000
+    let figures = [
+        (2, "0.500"),
+        (3, "0.667"),
+        (7, "0.857"),
+        (16, "0.938"),
+        (80, "0.988"),
+        (1000, "0.999"),
+        (1001, "0.999"),
+        (1999, "0.999"),
+        (2000, "0.999"),
+        (2001, "0.999"),
+        (100_000, "0.999"),
+    ];
+    for (transfers, figure) in figures {
         let events = vec![(1, vec![0]); transfers - 1];
         let line = format!("trail 1 {} 1 {transfers} {figure}", transfers - 1);
         c.expect("T13", &small_table(2), &trace_file(&[0], &events), &line);

@@ -1,5 +1,5 @@
-//! The rules of document 01 written a second time, plainly and from the paper alone, to compare the library with.
-//! Nothing here is tuned. Refusals are the paper's numbers.
+//! The rules of document 01, with the change requests of document 02 that have landed, written a second time, plainly and from the
+//! papers alone, to compare the library with. Nothing here is tuned. Refusals are the papers' numbers.
 //!
 //! Two forms of the replay: `Replay` keeps the counts that a checkpoint stores, and can go on from any checkpoint;
 //! `PlainRun` keeps the accepted events alone and counts by replaying them all (Algorithm 1 of document 001).
@@ -503,12 +503,14 @@ impl Replay {
     }
 }
 
-/// FIT: 1 − jumps/transfers in thousandths, rounded down.
+/// FIT: 1 − jumps/transfers rounded to the nearest thousandth, halves upward, but with one jump or more never above 0.999 (A.7).
 pub fn fitness(jumps: u64, transfers: u64) -> String {
     if transfers == 0 {
         return "-".to_string();
     }
-    let thousandths = 1000 * (transfers - jumps) / transfers;
+    let (whole, rest) = (1000 * (transfers - jumps) / transfers, 1000 * (transfers - jumps) % transfers);
+    let nearest = if rest < transfers - rest { whole } else { whole + 1 };
+    let thousandths = if jumps > 0 && nearest > 999 { 999 } else { nearest };
     format!("{}.{:03}", thousandths / 1000, thousandths % 1000)
 }
 
@@ -1013,9 +1015,29 @@ mod tests {
     #[test]
     fn t13_thousandths() {
         assert_eq!(fitness(4, 10), "0.600");
-        assert_eq!(fitness(1, 3), "0.666");
+        assert_eq!(fitness(1, 3), "0.667");
         assert_eq!(fitness(1, 100_000), "0.999");
         assert_eq!(fitness(0, 9), "1.000");
         assert_eq!(fitness(0, 0), "-");
+        // halves go up, but not to 1.000 where there is a jump
+        assert_eq!(fitness(1, 16), "0.938");
+        assert_eq!(fitness(3, 2000), "0.999");
+        assert_eq!(fitness(1, 2000), "0.999");
+        assert_eq!(fitness(1, 8_001_024), "0.999");
+        assert_eq!(fitness(8_001_024, 8_001_024), "0.000");
+    }
+
+    /// By looking: of all figures that may be shown the one that lies nearest, and of two that lie as near the upper.
+    #[test]
+    fn thousandths_are_the_nearest() {
+        for transfers in (1..=200i64).chain(1990..=2010).chain(3990..=4010) {
+            for jumps in 0..=transfers.min(200) {
+                let most = if jumps == 0 { 1000 } else { 999 };
+                let away = |n: i64| (n * transfers - 1000 * (transfers - jumps)).abs();
+                let n = (0..=most).rev().min_by_key(|&n| away(n)).unwrap();
+                assert!(away(n) < transfers, "{jumps} of {transfers}: not within one thousandth");
+                assert_eq!(fitness(jumps as u64, transfers as u64), format!("{}.{:03}", n / 1000, n % 1000), "{jumps} of {transfers}");
+            }
+        }
     }
 }

@@ -1,5 +1,5 @@
 #!/usr/bin/env bash
-# The oracle's own checks: T1 to T13 of document 01.
+# The oracle's own checks: T1 to T13 of document 01, and that FIT is the nearest figure.
 set -eu
 cd "$(dirname "$0")/.."
 work=$(mktemp -d)

@@ -3,4 +3,5 @@ pub mod Numbers
 pub mod ObjectsHold
 pub mod MaxRecordHolds
 pub mod MaxLineHolds
+pub mod FiguresHold
 pub mod FromC

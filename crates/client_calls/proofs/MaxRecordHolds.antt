@@ -27,7 +27,7 @@ use Rattle.client_calls.specs.MaxRecord.{MaxRecord}
 use Rattle.client_calls.proofs.Numbers.{start-number, start-le, restore-number}
 use Rattle.replay.specs.Limits.{maxRecord}
 
-restore-few : (b : List ℕ) → restoreCode b ≤ 47
+pub restore-few : (b : List ℕ) → restoreCode b ≤ 47
 unfolding restoreCode
 restore-few b = first-le 47 (restoreTests b) (omega arith)
 

@@ -34,7 +34,7 @@ number-is : (n s : ℕ) → n ≤ 61 → number (packed n s) ≡ n
 number-is n s h = omega arith
 
 -- the front of lent bytes that an answer cuts out
-front-is : (n : ℕ) (lent : List ℕ) → take (second (packed 0 n)) lent ≡ take n lent
+pub front-is : (n : ℕ) (lent : List ℕ) → take (second (packed 0 n)) lent ≡ take n lent
 front-is n lent = let e : second (packed 0 n) ≡ n = omega arith in ap (λ (n : ℕ). take n lent) e
 
 -- an event, a close

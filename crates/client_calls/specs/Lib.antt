@@ -4,3 +4,4 @@ pub mod Objects
 pub mod CallList
 pub mod MaxRecord
 pub mod MaxLine
+pub mod Figures

@@ -4,7 +4,6 @@ use mathlib.Core.Path.{_≡_, refl}
 use mathlib.Core.Bool.{Bool, true, false}
 use mathlib.Core.List.{List, [], _∷_}
 use Prim.Native.Nat.{ℕ, _+_, _*_, _-_, _/_, _%_, _≤_, _<_}
-use native.Mathlib.Nat.{div-le-of-le-mul, mul-comm, mul-le-mul-left}
 use native.Mathlib.Omega.{arith}
 use lib.Dec.{eqb}
 use lib.ListN.{length, set}
@@ -12,10 +11,7 @@ use Rattle.words.specs.Lists.{pick, over}
 use Rattle.digits.specs.Code.{digitCode, hundreds, tens, units}
 use Rattle.fitness.specs.Fitness.{thousandths, fitness}
 use Rattle.fitness.specs.declared.Fitness.the-variants.{Undefined, Thousandths}
-
-pub at-most : (kept transfers : ℕ) → kept ≤ transfers → 1000 * kept / transfers ≤ 1000
-at-most kept transfers h =
-    div-le-of-le-mul transfers (omega (arith, mul-le-mul-left 1000 h, mul-comm transfers 1000))
+use Rattle.fitness.proofs.RoundingLaws.{most-le}
 
 pub thousandths-le : (jumps transfers n : ℕ) → fitness jumps transfers ≡ Thousandths n → n ≤ 1000
 unfolding fitness thousandths
@@ -25,7 +21,7 @@ thousandths-le jumps transfers n e = go (eqb transfers 0) e
     go true e = absurd (let z : _≡_ {A = ℕ} 0 1 = cc in omega arith)
     go false e =
         let z : thousandths jumps transfers ≡ n = cc in
-        omega (arith, z, at-most (transfers - jumps) transfers (omega arith))
+        omega (arith, z, most-le jumps)
 
 pub five : (a b c d e : ℕ) (xs : List ℕ) → 5 ≤ length xs → set (set (set (set (set xs 0 a) 1 b) 2 c) 3 d) 4 e ≡ over (a ∷ b ∷ c ∷ d ∷ e ∷ []) xs
 five a b c d e [] h = absurd (omega arith)

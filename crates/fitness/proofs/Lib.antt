@@ -1,1 +1,2 @@
 mod FitnessLaws
+pub mod RoundingLaws

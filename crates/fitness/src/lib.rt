@@ -1,11 +1,11 @@
-// FIT, 1 - jumps/transfers in thousandths, rounded down, and its text over the start of lent bytes. Above `digits`, which gives
-// three digits at once; `text` puts it into fields.
+// FIT, 1 - jumps/transfers to the nearest thousandth, and its text over the start of lent bytes. Above `digits`, which gives three
+// digits at once; `text` puts it into fields. What is claimed of the rounding stands in `specs/Rounding.antt`.
 
 ghost use mathlib.Core.Path.{_≡_};
 ghost use Prim.Native.Nat.{_-_, _≤_};
 ghost use lib.ListN.{length};
 ghost use Rattle.words.specs.Lists.{over};
-ghost use Rattle.fitness.specs.Fitness.{thousandths, fitness, fitnessText};
+ghost use Rattle.fitness.specs.Fitness.{nearest, mostShown, thousandths, fitness, fitnessText};
 ghost use Rattle.fitness.specs.declared.Fitness.the-variants.{Thousandths};
 
 // FIT, if there are transfers to divide by.
@@ -26,12 +26,34 @@ fn kept(jumps: u32, transfers: u32) -> u64
     }
 }
 
+// The thousandth nearest to 1 - jumps/transfers, a half going up.
+fn nearest_one(jumps: u32, transfers: u32) -> u64
+    requires { ⌜ 1 ≤ transfers ⌝ }
+    ensures { λ r. ⌜ r ≡ nearest jumps transfers ⌝ }
+{
+    let whole = transfers as u64;
+    (2000 * kept(jumps, transfers) + whole) / (2 * whole)
+}
+
+// The most that is shown: 1.000 where there is no jump, 0.999 with one or more.
+fn most_shown(jumps: u32) -> u64
+    ensures { λ r. ⌜ (r ≡ mostShown jumps) × (r ≤ 1000) ⌝ }
+{
+    if jumps == 0 { 1000 } else { 999 }
+}
+
 // The thousandths where there are transfers: the one place where FIT is rounded.
 fn rounded(jumps: u32, transfers: u32) -> u32
     requires { ⌜ 1 ≤ transfers ⌝ }
     ensures { λ r. ⌜ (r ≡ thousandths jumps transfers) × (r ≤ 1000) ⌝ }
 {
-    (1000 * kept(jumps, transfers) / (transfers as u64)) as u32
+    let shown = nearest_one(jumps, transfers);
+    let most = most_shown(jumps);
+    if shown < most {
+        shown as u32
+    } else {
+        most as u32
+    }
 }
 
 // FIT of so many jumps in so many transfers.

@@ -1,6 +1,7 @@
--- Where nothing is refused, the program's text is the report of the plain run over the file's events and a close. Assumes nothing.
+-- Where nothing is refused, the program's text is the report of the plain run over the file's events and a close, and FIT is rounded on
+-- its lines. Assumes nothing.
 use Prim.Native.Nat.{ℕ, _+_}
-use mathlib.Core.Path.{_≡_, ap, sym, subst, _∙_}
+use mathlib.Core.Path.{_≡_, refl, ap, sym, subst, _∙_}
 use mathlib.Core.List.{List, [], _∷_, _++_, map}
 use native.Mathlib.Omega.{arith}
 use borrow.Author.Tests.{eq-eqb}
@@ -17,11 +18,14 @@ use Rattle.replay.specs.Calls.{netAt, stateAt}
 use Rattle.replay.specs.Claims.{Agrees}
 use Rattle.replay.proofs.Records.{net-at, state-at}
 use Rattle.replay.proofs.Theorems.{sound-reached, counts-agree}
+use Rattle.report.specs.Figures.{LinesRounded}
 use Rattle.report.specs.Report.{reportOf, reportAt}
+use Rattle.report.proofs.FiguresHold.{lines-rounded}
 use Rattle.report.proofs.ReportLaws.{report-agrees}
 use Rattle.trace_header.specs.Opening.{shapeTests, registerOf, traceCode}
+use Rattle.trace_reader.specs.Followed.{closedAfter}
 use Rattle.trace_reader.proofs.Runs.{plain-run}
-use Rattle.program_text.specs.Program.{readIn, cameOf, eventsText, programText, PrintsPlain}
+use Rattle.program_text.specs.Program.{readIn, cameOf, eventsText, programText, PrintsPlain, PrintsRounded}
 
 module _ (table f : List ℕ) (good : loadCode table ≡ 0) (opens : traceCode (netOf table) f ≡ 0) where
   abbrev N : Net
@@ -39,27 +43,49 @@ module _ (table f : List ℕ) (good : loadCode table ≡ 0) (opens : traceCode (
       first-zero (registerTests N ks)
       (none-split (shapeTests N f) (registerTests N ks) (none-apply (shapeTests N f ++ registerTests N ks) (omega arith) opens) .1)
 
-  -- the report of the record of a plain run
+  -- the record of a plain run, what holds of the net and the state in it, and its report
   module _ (qs : List Ask) where
-    abbrev made : List ℕ
-    made = encode table (stateOf N (run N (start ks) qs))
+    abbrev d : State
+    d = stateOf N (run N (start ks) qs)
 
-    sound : Sound N (stateOf N (run N (start ks) qs))
+    abbrev made : List ℕ
+    made = encode table d
+
+    sound : Sound N d
     sound = sound-reached N L ks registers qs
 
-    agrees : Agrees (netAt made) (stateAt made) (run N (start ks) qs)
-    agrees =
-        subst (λ (d : State). Agrees (netAt made) d (run N (start ks) qs)) (sym (state-at table good (stateOf N (run N (start ks) qs)) sound))
-        (subst (λ (n : Net). Agrees n (stateOf N (run N (start ks) qs)) (run N (start ks) qs)) (sym (net-at table good (stateOf N (run N (start ks) qs)) sound)) (counts-agree N L ks registers qs))
+    held : (P : Net → State → Type 0) → P N d → P (netAt made) (stateAt made)
+    held P p =
+        subst (λ (e : State). P (netAt made) e) (sym (state-at table good d sound))
+        (subst (λ (n : Net). P n d) (sym (net-at table good d sound)) p)
 
     reported : reportAt made ≡ reportOf N (run N (start ks) qs)
-    reported = report-agrees made (run N (start ks) qs) agrees ∙ ap (λ (n : Net). reportOf n (run N (start ks) qs)) (net-at table good (stateOf N (run N (start ks) qs)) sound)
+    reported =
+        report-agrees made (run N (start ks) qs) (held (λ n e. Agrees n e (run N (start ks) qs)) (counts-agree N L ks registers qs))
+        ∙ ap (λ (n : Net). reportOf n (run N (start ks) qs)) (net-at table good d sound)
 
-  printed : cameOf table f .code ≡ 0 → programText table f ≡ reportOf N (run N (start ks) (map event (readIn table f) ++ close ∷ []))
-  unfolding programText eventsText
-  printed z =
-      rw (eq-eqb (loadCode table) 0 good, eq-eqb (traceCode N f) 0 opens, eq-eqb (cameOf table f .code) 0 z)
-      (ap reportAt (plain-run table ks f (word f 12) (16 + word f 4) good registers .closed z) ∙ reported (map event (readIn table f) ++ close ∷ []))
+    rounded : LinesRounded made
+    rounded = lines-rounded made (held Sound sound)
+
+  module _ (z : cameOf table f .code ≡ 0) where
+    abbrev asks : List Ask
+    asks = map event (readIn table f) ++ close ∷ []
+
+    printed : programText table f ≡ reportAt (closedAfter (cameOf table f))
+    unfolding programText eventsText
+    printed = rw (eq-eqb (loadCode table) 0 good, eq-eqb (traceCode N f) 0 opens, eq-eqb (cameOf table f .code) 0 z) refl
+
+    closed : closedAfter (cameOf table f) ≡ made asks
+    closed = plain-run table ks f (word f 12) (16 + word f 4) good registers .closed z
+
+    plain : programText table f ≡ reportOf N (run N (start ks) asks)
+    plain = printed ∙ ap reportAt closed ∙ reported asks
+
+    nearest : LinesRounded (closedAfter (cameOf table f))
+    nearest = subst LinesRounded (sym closed) (rounded asks)
 
 pub prints-plain : (table f : List ℕ) → PrintsPlain table f
-prints-plain table f good opens z = printed table f good opens z
+prints-plain table f good opens z = plain table f good opens z
+
+pub prints-rounded : (table f : List ℕ) → PrintsRounded table f
+prints-rounded table f good opens z = (printed table f good opens z, nearest table f good opens z)

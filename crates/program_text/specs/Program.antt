@@ -10,6 +10,7 @@ use Rattle.words.specs.Words.{word}
 use Rattle.net.specs.Table.{netOf, loadCode}
 use Rattle.replay.specs.Plain.{Event, event, close, start, run}
 use Rattle.report_lines.specs.ReportLines.{refusedLine}
+use Rattle.report.specs.Figures.{LinesRounded}
 use Rattle.report.specs.Report.{reportOf, reportAt}
 use Rattle.trace_header.specs.Opening.{registerOf, traceCode}
 use Rattle.trace_reader.specs.Followed.{Followed, closedAfter}
@@ -34,7 +35,12 @@ module _ (table f : List ℕ) where
       (pick (eqb (traceCode (netOf table) f) 0) (eventsText cameOf) (refusedLine (traceCode (netOf table) f) 0))
       (refusedLine (loadCode table) 0)
 
-  -- What is claimed of it: where nothing is refused, it is the report of the plain run over the file's events and a close.
+  -- What is claimed of it: where nothing is refused, it is the report of the plain run over the file's events and a close,
   abbrev pub PrintsPlain : Type 0
   PrintsPlain = loadCode table ≡ 0 → traceCode (netOf table) f ≡ 0 → cameOf .code ≡ 0
       → programText ≡ reportOf (netOf table) (run (netOf table) (start (registerOf (netOf table) f)) (map event readIn ++ close ∷ []))
+
+  -- and the report of a trail on whose lines FIT is rounded as A.7 asks.
+  abbrev pub PrintsRounded : Type 0
+  PrintsRounded = loadCode table ≡ 0 → traceCode (netOf table) f ≡ 0 → cameOf .code ≡ 0
+      → (programText ≡ reportAt (closedAfter cameOf)) × LinesRounded (closedAfter cameOf)

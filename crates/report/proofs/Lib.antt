@@ -1,5 +1,6 @@
 pub mod TrailLaws
 pub mod PairIndex
 pub mod LengthLaws
+pub mod FiguresHold
 pub mod ReportLaws
 pub mod RowsHold

@@ -1,5 +1,5 @@
--- T4's report, line by line and whole, and T13's figures, computed from the definitions, are the paper's text; and a line of 41
--- bytes, which is the longest. Assumes nothing.
+-- T4's report, line by line and whole, and T13's figures with those of A.7, computed from the definitions, are the papers' text; and a
+-- line of 41 bytes, which is the longest. Assumes nothing.
 use mathlib.Core.Path.{_≡_, refl, ap}
 use native.Mathlib.Omega.{arith}
 use lib.ListN.{length}
@@ -10,7 +10,7 @@ use Rattle.fitness.specs.Fitness.{thousandths, fitness}
 use Rattle.text.proofs.DecimalLaws.{digits-are}
 use Rattle.lines.specs.Lines.{lineOf}
 use Rattle.report_lines.specs.ReportLines.{trailLine}
-use Rattle.report.specs.Rows.{lines, longest, rounding, whole, RowsHold}
+use Rattle.report.specs.Rows.{lines, longest, rounding, figures, whole, RowsHold}
 use Rattle.report.specs.Lengths.{maxLine}
 
 pub lines-hold : RowsHold lines
@@ -29,7 +29,11 @@ longest-size = ap length (longest-holds .0)
 
 pub rounding-holds : RowsHold rounding
 unfolding rounding fitness thousandths
-rounding-holds = (refl, (refl, (refl, (refl, tt))))
+rounding-holds = (refl, (refl, (refl, (refl, (refl, (refl, (refl, (refl, (refl, (refl, tt))))))))))
+
+pub figures-hold : RowsHold figures
+unfolding figures lineOf decimal fitness thousandths
+figures-hold = (refl, (refl, (refl, (refl, tt))))
 
 pub whole-holds : RowsHold whole
 unfolding whole M reportOf lineOf decimal fitness thousandths

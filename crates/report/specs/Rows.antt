@@ -1,4 +1,5 @@
--- Document 01's report (sheet) for T4, T13, and a longest line, as rows: what a definition gives, and the text that it is to be.
+-- Document 01's report (sheet) for T4, T13 and where FIT stands, and a longest line, as rows: what a definition gives, and the text
+-- that it is to be.
 use Prim.Native.Nat.{ℕ}
 use Prim.Native.String.{String}
 use mathlib.Core.Path.{_≡_}
@@ -9,6 +10,7 @@ use Rattle.replay.specs.Rows.{M, three}
 use Rattle.text.specs.Text.{ascii}
 use Rattle.fitness.specs.Fitness.{fitness, fitnessText}
 use Rattle.report_lines.specs.ReportLines.{trailLine, placeLine, actLine, jumpLine}
+use Rattle.report.specs.Figures.{figureOf}
 use Rattle.report.specs.Report.{reportOf}
 
 pub record Row : Type 0 where
@@ -37,13 +39,28 @@ lines =
 unfoldable pub longest : List Row
 longest = record { gives = trailLine 1024 1000000 8001024 8001024; text = "trail 1024 1000000 8001024 8001024 0.000\n" } ∷ []
 
--- T13, and FIT where the divisor is 0
+-- T13 with A.7's middle figure; no jump, a half that would be 1.000, halves that go up, all jumps, and FIT where the divisor is 0
 unfoldable pub rounding : List Row
 rounding =
     record { gives = fitnessText (fitness 4 10); text = "0.600" }
-    ∷ record { gives = fitnessText (fitness 1 3); text = "0.666" }
+    ∷ record { gives = fitnessText (fitness 1 3); text = "0.667" }
     ∷ record { gives = fitnessText (fitness 1 100000); text = "0.999" }
+    ∷ record { gives = fitnessText (fitness 0 100000); text = "1.000" }
+    ∷ record { gives = fitnessText (fitness 1 2000); text = "0.999" }
+    ∷ record { gives = fitnessText (fitness 3 2000); text = "0.999" }
+    ∷ record { gives = fitnessText (fitness 5 2000); text = "0.998" }
+    ∷ record { gives = fitnessText (fitness 1 16); text = "0.938" }
+    ∷ record { gives = fitnessText (fitness 3 3); text = "0.000" }
     ∷ record { gives = fitnessText (fitness 0 0); text = "-" }
+    ∷ []
+
+-- where FIT stands on the three kinds of line
+unfoldable pub figures : List Row
+figures =
+    record { gives = figureOf (trailLine 3 5 1 10); text = "0.900" }
+    ∷ record { gives = figureOf (placeLine 4 2 1 0); text = "0.500" }
+    ∷ record { gives = figureOf (placeLine 4 0 0 0); text = "-" }
+    ∷ record { gives = figureOf (actLine 2 2 4 1); text = "0.750" }
     ∷ []
 
 -- the whole report of T4, from its events and its close on table M

@@ -1,31 +1,31 @@
--- At most 1,000 thousandths fit, and they are those of `thousandths`. Assumes nothing.
-use Prim.Native.Nat.{ℕ, _*_, _/_}
-use mathlib.Core.Path.{ap}
+-- The smaller of the nearest and the most that is shown, as `thousandths` has it. Assumes nothing.
 use native.Mathlib.Omega.{arith}
 use Rattle.fitness.specs.Fitness.{thousandths}
-use Rattle.fitness.proofs.FitnessLaws.{at-most}
 use borrow.Author.Needs.{needs}
 use Rattle.fitness.proofs.rounded.Statement.{statement}
 use Rattle.fitness.proofs.rounded.Tie as tie
 
-kept-requires : tie.Need-kept-requires
-kept-requires c κs = search needs
+nearest-one-requires : tie.Need-nearest-one-requires
+nearest-one-requires c κs = search needs
 
-mul-result : tie.Need-mul-result
-mul-result c = search needs
-
-div-result : tie.Need-div-result
-div-result c = search needs
+most-shown-requires : tie.Need-most-shown-requires
+most-shown-requires c κs = search needs
 
 cast-result : tie.Need-cast-result
-cast-result c = omega (arith, at-most (c .kept .result) (c .before .args .transfers) (omega arith))
+cast-result c = search needs
+
+cast-result-2 : tie.Need-cast-result-2
+cast-result-2 c = search needs
 
 returns : tie.Need-returns
 unfolding thousandths
-returns c = (
-  ap (λ (k : ℕ). 1000 * k / c .before .args .transfers) (c .kept .ensures .0),
-  at-most (c .kept .result) (c .before .args .transfers) (omega arith),
-)
+returns c = (omega arith, omega arith)
+
+returns-2 : tie.Need-returns-2
+unfolding thousandths
+returns-2 c = (omega arith, omega arith)
 
 pub rounded-spec : {M : Type 1} → statement M
-rounded-spec = tie.close (tie.spec kept-requires mul-result div-result cast-result returns)
+rounded-spec =
+    tie.close
+    (tie.spec nearest-one-requires most-shown-requires cast-result cast-result-2 returns returns-2)
