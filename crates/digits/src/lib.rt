@@ -1,6 +1,8 @@
 // The three digits of a number below 1,000 as the mark-sheet printer's digit code, worked out. It uses nothing; `fitness` writes FIT
 // by it.
 
+#![tactic(auto)]
+
 ghost use Rattle.std.specs.Prelude.{◌≡◌, ◌<◌};
 ghost use Rattle.digits.specs.Code.{digit_code};
 

@@ -2,6 +2,8 @@
 // Above `words`. `net_loader` fills and tests the words, with the crates below it, and `net_lookup` reads them; the crates above
 // use what `Held` and `Loaded` promise, and never a table's bytes or the words' places.
 
+#![tactic(auto)]
+
 ghost use Rattle.std.specs.Prelude.{◌≡◌};
 ghost use Rattle.net.specs.Answer.{load_answer_code};
 
@@ -30,7 +32,7 @@ pub const OUTPUTS: usize = 149;
 pub const INDEX: usize = 1172;
 
 // The answer to loading a table. `load_answer_code` gives document 01's number.
-#[derive(Drop)]
+#[derive(Clone, Copy)]
 pub enum LoadAnswer {
     Taken,
     // 1: length under 32 or over 4,704.

@@ -1,6 +1,8 @@
 // The tests 6 and 7 on a table's bodies in words: the number of arcs of each activity, the places of each arc.
 // Above `net`; `net_refusals` asks them.
 
+#![tactic(auto)]
+
 ghost use Rattle.std.specs.Prelude.{◌≡◌, ℕ, ◌≤◌, ◌<◌, length, get_or};
 ghost use Rattle.words.specs.Lists.{any, pair_up, total};
 ghost use Rattle.net.specs.Table.{bad_count, bad_arc};
@@ -62,7 +64,7 @@ fn bad_arc(w: &NetWords, p: usize, q: usize) -> bool
 // 7: an arc with an unknown place, or with places of two kinds.
 pub fn bad_arcs(w: &NetWords) -> bool
     requires sized { Sized w.now }
-    requires w_bound { get_or w.now 3 0 ≤ 512 }
+    requires bounded { get_or w.now 3 0 ≤ 512 }
     ensures { result ≡ any (bad_arc (net_in w.now)) (pair_up (arcs_in w.now)) }
 {
     let n = wide(w[3]);

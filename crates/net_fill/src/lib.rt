@@ -1,6 +1,8 @@
 // A table's sizes and bodies, copied from bytes into words, and words into words.
 // Above `net`; `net_loader` fills with them.
 
+#![tactic(auto)]
+
 ghost use Rattle.std.specs.Prelude.{◌≡◌, [], ◌∷◌, ◌+◌, ◌*◌, ◌/◌, ◌≤◌, length, take, drop};
 ghost use Rattle.std.proofs.lemmas.List.Edits.{sets};
 ghost use Rattle.words.specs.Refusals.{first};
@@ -14,8 +16,8 @@ use words::wide;
 
 // The n numbers of the bytes from number `from` on become the words from word `base` on.
 fn copy_words(s: &[u8], from: usize, n: usize, w: &mut NetWords, base: usize)
-    requires n_in_bounds { from + n ≤ length (words_of s.now) }
-    requires n_bound { base + n ≤ net_words }
+    requires inside { from + n ≤ length (words_of s.now) }
+    requires room { base + n ≤ net_words }
     ensures { w.new ≡ sets w.old base (take n (drop from (words_of s.now))) }
 {
     let mut i = 0;
@@ -27,9 +29,9 @@ fn copy_words(s: &[u8], from: usize, n: usize, w: &mut NetWords, base: usize)
 
 // Body i becomes the words from word `base` on.
 pub fn copy_body(s: &[u8], i: usize, w: &mut NetWords, base: usize)
-    requires i_bound { (i ≤ 3) × (32 ≤ length s.now) }
-    requires i_in_bounds { word s.now (8 * i) + word s.now (8 * i + 4) ≤ length s.now }
-    requires i_bound_2 { base + word s.now (8 * i + 4) / 4 ≤ net_words }
+    requires known_body { (i ≤ 3) × (32 ≤ length s.now) }
+    requires inside { word s.now (8 * i) + word s.now (8 * i + 4) ≤ length s.now }
+    requires room { base + word s.now (8 * i + 4) / 4 ≤ net_words }
     ensures { w.new ≡ sets w.old base (body_of s.now i) }
 {
     let at = 8 * i;

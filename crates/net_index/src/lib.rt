@@ -1,6 +1,8 @@
 // The look-up words of a net, behind its other words: each arc at its activity and kind.
 // Above `net` and `net_routes`, whose laws say what tested words hold; `net_loader` stores them.
 
+#![tactic(auto)]
+
 ghost use Rattle.std.specs.Prelude.{◌≡◌, ◌+◌, ◌≤◌, get_or, take, drop};
 ghost use Rattle.words.specs.Lists.{pair_up, parts};
 ghost use Rattle.net.specs.Held.{net_in, counts_in, arcs_in, index_row, index_rows};
@@ -13,7 +15,7 @@ use words::wide;
 // The n arcs from arc `from` on, each at its kind's word of the eight from word `base` on.
 fn index_row(t: &mut NetWords, from: usize, n: usize, base: usize)
     requires ruled { Ruled t.old }
-    requires n_bound { (from + n ≤ get_or t.old 3 0) × (1172 ≤ base) × (base + 8 ≤ net_words) }
+    requires bounded { (from + n ≤ get_or t.old 3 0) × (1172 ≤ base) × (base + 8 ≤ net_words) }
     ensures { t.new ≡ index_row (net_in t.old).kind_of base (take n (drop from (pair_up (arcs_in t.old)))) t.old }
 {
     let mut i = 0;

@@ -2,6 +2,8 @@
 // Above `net_shape` and `net_refusals`, which have the tests 1 to 3 and 4 to 9, and `net_fill` and `net_index`, which store the
 // words.
 
+#![tactic(auto)]
+
 ghost use Rattle.std.specs.Prelude.{◌≡◌, ◌≤◌, length, replicate};
 ghost use Rattle.words.specs.Refusals.{first};
 ghost use Rattle.net.specs.Table.{shape_tests, load_code};
@@ -17,8 +19,8 @@ use net_shape::refuse_shape;
 
 // A table to which none of 1 to 3 applies: 4 to 9, or 0 where it is loaded into the words, which are all zero.
 fn load_bodies(s: &[u8], t: &mut NetWords) -> u32
-    requires s_value { first (shape_tests s.now) ≡ 0 }
-    requires t_value { t.old ≡ replicate net_words 0 }
+    requires shaped { first (shape_tests s.now) ≡ 0 }
+    requires fresh { t.old ≡ replicate net_words 0 }
     ensures { (result ≡ load_code s.now) × (load_code s.now ≡ 0 → t.new ≡ loaded_words s.now) }
 {
     copy_front(s, t);

@@ -1,6 +1,8 @@
 // Looking up a loaded net, each in one step. What is said of the words is said of the net that they hold.
 // Above `net`; all that lies above the loading of tables reads a net by it alone.
 
+#![tactic(auto)]
+
 ghost use Rattle.std.specs.Prelude.{◌≡◌, true, ◌<◌, length};
 ghost use Rattle.words.specs.Lists.{pick};
 ghost use Rattle.net.specs.Net.{takes, input_of, output_of};
@@ -33,7 +35,7 @@ pub fn acts(t: &NetWords) -> usize
 // The source of kind k.
 pub fn source(t: &NetWords, k: usize) -> usize
     requires held { Held t.now }
-    requires k_bound { k < (net_in t.now).kinds }
+    requires known_kind { k < (net_in t.now).kinds }
     ensures { result ≡ (net_in t.now).source k }
 {
     wide(t[SOURCES + 2 * k])
@@ -42,7 +44,7 @@ pub fn source(t: &NetWords, k: usize) -> usize
 // The sink of kind k.
 pub fn sink(t: &NetWords, k: usize) -> usize
     requires held { Held t.now }
-    requires k_bound { k < (net_in t.now).kinds }
+    requires known_kind { k < (net_in t.now).kinds }
     ensures { result ≡ (net_in t.now).sink k }
 {
     wide(t[SINKS + 2 * k])
@@ -51,7 +53,7 @@ pub fn sink(t: &NetWords, k: usize) -> usize
 // The kind of place p.
 pub fn kind_of(t: &NetWords, p: usize) -> usize
     requires held { Held t.now }
-    requires p_bound { p < (net_in t.now).places }
+    requires known_place { p < (net_in t.now).places }
     ensures { result ≡ (net_in t.now).kind_of p }
 {
     wide(t[PLACES + p])
@@ -60,7 +62,7 @@ pub fn kind_of(t: &NetWords, p: usize) -> usize
 // How many arcs activity a has.
 pub fn arcs(t: &NetWords, a: usize) -> usize
     requires held { Held t.now }
-    requires a_bound { a < (net_in t.now).acts }
+    requires known_act { a < (net_in t.now).acts }
     ensures { result ≡ length ((net_in t.now).arcs a) }
 {
     wide(t[COUNTS + a])
@@ -70,7 +72,7 @@ pub fn arcs(t: &NetWords, a: usize) -> usize
 // once for all objects of an event.
 fn arc_word(t: &NetWords, a: usize, k: usize) -> usize
     requires held { Held t.now }
-    requires a_bound { (a < (net_in t.now).acts) × (k < (net_in t.now).kinds) }
+    requires known_act { (a < (net_in t.now).acts) × (k < (net_in t.now).kinds) }
     ensures { result ≡ pick (takes (net_in t.now) a k) (pack (input_of (net_in t.now) a k, output_of (net_in t.now) a k)) 0 }
 {
     let row = INDEX + 8 * a;
@@ -82,7 +84,7 @@ fn arc_word(t: &NetWords, a: usize, k: usize) -> usize
 // Activity a takes an object of kind k.
 pub fn takes_kind(t: &NetWords, a: usize, k: usize) -> bool
     requires held { Held t.now }
-    requires a_bound { (a < (net_in t.now).acts) × (k < (net_in t.now).kinds) }
+    requires known_act { (a < (net_in t.now).acts) × (k < (net_in t.now).kinds) }
     ensures { result ≡ takes (net_in t.now) a k }
 {
     arc_word(t, a, k) != 0
@@ -91,7 +93,7 @@ pub fn takes_kind(t: &NetWords, a: usize, k: usize) -> bool
 // The place from which activity a takes an object of kind k.
 pub fn input(t: &NetWords, a: usize, k: usize) -> usize
     requires held { Held t.now }
-    requires a_bound { (a < (net_in t.now).acts) × (k < (net_in t.now).kinds) × (takes (net_in t.now) a k ≡ true) }
+    requires known_act { (a < (net_in t.now).acts) × (k < (net_in t.now).kinds) × (takes (net_in t.now) a k ≡ true) }
     ensures { result ≡ input_of (net_in t.now) a k }
 {
     arc_word(t, a, k) % 256
@@ -100,7 +102,7 @@ pub fn input(t: &NetWords, a: usize, k: usize) -> usize
 // The place on which activity a leaves an object of kind k.
 pub fn output(t: &NetWords, a: usize, k: usize) -> usize
     requires held { Held t.now }
-    requires a_bound { (a < (net_in t.now).acts) × (k < (net_in t.now).kinds) × (takes (net_in t.now) a k ≡ true) }
+    requires known_act { (a < (net_in t.now).acts) × (k < (net_in t.now).kinds) × (takes (net_in t.now) a k ≡ true) }
     ensures { result ≡ output_of (net_in t.now) a k }
 {
     arc_word(t, a, k) / 256 % 256

@@ -1,6 +1,8 @@
 // The tests 4 and 5 on a table's bodies in words: the kinds of its places, the source and the sink of each kind.
 // Above `net`; `net_refusals` asks them.
 
+#![tactic(auto)]
+
 ghost use Rattle.std.specs.Prelude.{◌≡◌, ℕ, ◌<◌, leb};
 ghost use Rattle.words.specs.Lists.{any, any_to};
 ghost use Rattle.net.specs.Table.{bad_ends};
@@ -29,7 +31,7 @@ pub fn bad_place(w: &NetWords) -> bool
 // The source and sink of kind k, places s and e, break test 5.
 fn bad_pair(w: &NetWords, k: usize, s: usize, e: usize) -> bool
     requires sized { Sized w.now }
-    requires k_bound { (k < (net_in w.now).kinds) × (s ≡ (net_in w.now).source k) × (e ≡ (net_in w.now).sink k) }
+    requires known_kind { (k < (net_in w.now).kinds) × (s ≡ (net_in w.now).source k) × (e ≡ (net_in w.now).sink k) }
     ensures { result ≡ bad_ends (net_in w.now) k }
 {
     let n = wide(w[1]);

@@ -1,6 +1,8 @@
 // The tests 4 to 9 on a table's bodies in words, the first that applies.
 // Above `net_places`, `net_arcs` and `net_routes`, which have them; `net_loader` asks.
 
+#![tactic(auto)]
+
 ghost use Rattle.std.specs.Prelude.{◌≡◌};
 ghost use Rattle.words.specs.Refusals.{first};
 ghost use Rattle.net.specs.Table.{arc_tests};

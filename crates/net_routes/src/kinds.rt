@@ -12,7 +12,7 @@ use words::wide;
 // Two of the n arcs from arc `from` on are of one kind.
 fn two_in_row(w: &NetWords, from: usize, n: usize) -> bool
     requires ruled { Ruled w.now }
-    requires n_bound { from + n ≤ get_or w.now 3 0 }
+    requires bounded { from + n ≤ get_or w.now 3 0 }
     ensures { result ≡ twice (kinds_of (net_in w.now) (take n (drop from (pair_up (arcs_in w.now))))) }
 {
     let mut seen = [false; 8];
@@ -32,7 +32,7 @@ fn two_in_row(w: &NetWords, from: usize, n: usize) -> bool
 // 8: two arcs of one activity are of one kind.
 pub fn two_of_kind(w: &NetWords) -> bool
     requires { Ruled w.now }
-    ensures* { λ r. ⌜ r ≡ any (λ (r : List Arc). twice (kinds_of (net_in w.now) r)) (parts (counts_in w.now) (pair_up (arcs_in w.now))) ⌝ }
+    ensures { result ≡ any (λ (row : List Arc). twice (kinds_of (net_in w.now) row)) (parts (counts_in w.now) (pair_up (arcs_in w.now))) }
 {
     let n = wide(w[2]);
     let mut from = 0;

@@ -1,6 +1,8 @@
 // The tests 1 to 3 on a table's bytes: length, layout, sizes.
 // Above `net`; `net_loader` asks them.
 
+#![tactic(auto)]
+
 ghost use Rattle.std.specs.Prelude.{◌≡◌};
 ghost use Rattle.words.specs.Refusals.{first};
 ghost use Rattle.net.specs.Table.{size_tests, row_tests, shape_tests};

@@ -91,6 +91,7 @@ All-of P d [] h = tt
 All-of P d (x ∷ l) h = (h 0 (omega arith), All-of P d l (λ i q. h (suc i) (omega arith)))
 
 pub All-in : {A : Type 0} (Q : A → Type 0) (xs : List A) → All Q xs → (x : A) → In x xs → Q x
+All-in {A = A} Q [] a x i = elim i [ ]
 All-in Q (y ∷ xs) a x here = a.0
 All-in Q (y ∷ xs) a x (there i) = All-in Q xs a.1 x i
 

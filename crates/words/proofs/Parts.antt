@@ -56,15 +56,19 @@ module _ {A : Type 0} where
   All-parts P (n ∷ ns) xs a = (All-take P n xs a, All-parts P ns (drop n xs) (All-drop P n xs a))
 
   in_take : (n : ℕ) (xs : List A) (x : A) → In x (take n xs) → In x xs
+  in_take zero xs x i = elim i [ ]
+  in_take (suc n) [] x i = elim i [ ]
   in_take (suc n) (y ∷ xs) x here = here
   in_take (suc n) (y ∷ xs) x (there i) = there (in_take n xs x i)
 
   in-drop : (n : ℕ) (xs : List A) (x : A) → In x (drop n xs) → In x xs
   in-drop zero xs x i = i
+  in-drop (suc n) [] x i = elim i [ ]
   in-drop (suc n) (y ∷ xs) x i = there (in-drop n xs x i)
 
   in_cut : (n : ℕ) (xs : List A) (x : A) → In x xs → In x (take n xs) ⊎ In x (drop n xs)
   in_cut zero xs x i = inr i
+  in_cut (suc n) [] x i = elim i [ ]
   in_cut (suc n) (y ∷ xs) x here = inl here
   in_cut (suc n) (y ∷ xs) x (there i) = go (in_cut n xs x i)
     where
@@ -74,6 +78,7 @@ module _ {A : Type 0} where
 
   -- an element of a part is an element of the list
   pub in_whole : (ns : List ℕ) (xs : List A) (a : ℕ) (x : A) → In x (get_or (parts ns xs) a []) → In x xs
+  in_whole [] xs a x i = elim i [ ]
   in_whole (n ∷ ns) xs zero x i = in_take n xs x i
   in_whole (n ∷ ns) xs (suc a) x i = in-drop n xs x (in_whole ns (drop n xs) a x i)
 
@@ -84,6 +89,7 @@ module _ {A : Type 0} where
     pub «in» : In x (get_or (parts ns xs) which [])
 
   pub in-part : (ns : List ℕ) (xs : List A) (x : A) → sum ns ≡ length xs → In x xs → Part ns xs x
+  in-part [] [] x s i = elim i [ ]
   in-part [] (y ∷ xs) x s i = absurd (omega arith)
   in-part (n ∷ ns) xs x s i = go (in_cut n xs x i) (in-part ns (drop n xs) x (simp length-drop (omega arith)))
     where

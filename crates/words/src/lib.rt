@@ -1,6 +1,8 @@
 // Four-byte numbers in byte slices, least significant byte first, and the layout of files that begin with contents pairs.
 // The lowest layer: all crates but `digits` and `program_input` use it, and it uses nothing.
 
+#![tactic(auto)]
+
 ghost use Rattle.std.specs.Prelude.{◌≡◌, ◌+◌, ◌*◌, ◌<◌, ◌≤◌, length, get_or};
 ghost use Rattle.words.specs.Words.{word, words_of, bodies_of, ends_at};
 ghost use Rattle.words.specs.Put.{Put};
