@@ -2,6 +2,8 @@
 // Above `replay_moves`, which moves an object, and `replay`, whose definitions its contracts cite. The program and the C calls
 // close by it.
 
+#![tactic(auto)]
+
 ghost use Rattle.std.specs.Prelude.{◌≡◌};
 ghost use Rattle.words.specs.Words.{words_of};
 ghost use Rattle.net.specs.Held.{net_in};
@@ -29,7 +31,7 @@ pub enum CloseAnswer {
 // jumps are added once, behind the last object.
 fn sink_objects(rec: &mut [u8], t: &NetWords, lay: Layout)
     requires ready { Ready t.now rec.old }
-    requires lay_value { lay ≡ layout_of (net_in t.now) rec.old }
+    requires laid_out { lay ≡ layout_of (net_in t.now) rec.old }
     ensures { words_of rec.new ≡ record_words (table_in rec.old) (after_legs (net_in t.now) close_jumps (state_at rec.old) (endings (net_in t.now) (state_at rec.old).kinds)) }
 {
     let mut o = 0;

@@ -1,6 +1,8 @@
 // Reading every count of document 01 from a trail's bytes: what is stored is looked up, and the rest is summed from it.
 // Above `replay_stored`, which looks up, `net_lookup` and `replay`. `report` and `client_counts` write what it reads.
 
+#![tactic(auto)]
+
 ghost use Rattle.std.specs.Prelude.{◌≡◌, ◌+◌, ◌*◌, ◌<◌, ◌≤◌, length, get_or, eqb};
 ghost use Rattle.words.specs.Lists.{one, sum_to};
 ghost use Rattle.net.specs.Held.{net_in, Held};
@@ -66,7 +68,7 @@ pub struct TrailCounts {
 // MOVED of activity a: FIRED times its arcs.
 fn moved(rec: &[u8], t: &NetWords, a: usize) -> u32
     requires ready { Ready t.now rec.now }
-    requires a_bound { a < (net_in t.now).acts }
+    requires known_act { a < (net_in t.now).acts }
     ensures { (result ≡ stored_moved (net_in t.now) (state_at rec.now) a) × (result ≤ 8000000) }
 {
     let n = net_lookup::arcs(t, a);
@@ -76,7 +78,7 @@ fn moved(rec: &[u8], t: &NetWords, a: usize) -> u32
 // IN of place q: the jumps from every place to it.
 fn jumps_in(rec: &[u8], t: &NetWords, q: usize) -> u32
     requires ready { Ready t.now rec.now }
-    requires q_bound { q < (net_in t.now).places }
+    requires known_place { q < (net_in t.now).places }
     ensures { result ≡ stored_jumps_in (net_in t.now) (state_at rec.now) q }
 {
     let n = net_lookup::places(t);
@@ -92,7 +94,7 @@ fn jumps_in(rec: &[u8], t: &NetWords, q: usize) -> u32
 // OUT of place q: the jumps from it to every place.
 fn jumps_out(rec: &[u8], t: &NetWords, q: usize) -> u32
     requires ready { Ready t.now rec.now }
-    requires q_bound { q < (net_in t.now).places }
+    requires known_place { q < (net_in t.now).places }
     ensures { result ≡ stored_jumps_out (net_in t.now) (state_at rec.now) q }
 {
     let n = net_lookup::places(t);
@@ -108,7 +110,7 @@ fn jumps_out(rec: &[u8], t: &NetWords, q: usize) -> u32
 // How many arcs of activity a have the input place q: one or none, as only one arc can be of that place's kind.
 fn inputs_on(t: &NetWords, q: usize, a: usize) -> u32
     requires held { Held t.now }
-    requires q_bound { (q < (net_in t.now).places) × (a < (net_in t.now).acts) }
+    requires known_place { (q < (net_in t.now).places) × (a < (net_in t.now).acts) }
     ensures { (result ≡ inputs (net_in t.now) q a) × (result ≤ 1) }
 {
     let k = net_lookup::kind_of(t, q);
@@ -124,7 +126,7 @@ fn inputs_on(t: &NetWords, q: usize, a: usize) -> u32
 // How many objects the events took from place q.
 fn taken_by_events(rec: &[u8], t: &NetWords, q: usize) -> u32
     requires ready { Ready t.now rec.now }
-    requires q_bound { q < (net_in t.now).places }
+    requires known_place { q < (net_in t.now).places }
     ensures { (result ≡ sum_to (net_in t.now).acts (λ a. get_or (state_at rec.now).fired a 0 * inputs (net_in t.now) q a)) × (result ≤ 64000000) }
 {
     let n = net_lookup::acts(t);
@@ -140,7 +142,7 @@ fn taken_by_events(rec: &[u8], t: &NetWords, q: usize) -> u32
 // 1 where the sink of object o is place q, else 0.
 fn sinks_on(rec: &[u8], t: &NetWords, q: usize, o: usize) -> u32
     requires ready { Ready t.now rec.now }
-    requires o_in_bounds { o < length (state_at rec.now).kinds }
+    requires known_object { o < length (state_at rec.now).kinds }
     ensures { (result ≡ one (eqb q ((net_in t.now).sink (get_or (state_at rec.now).kinds o 0)))) × (result ≤ 1) }
 {
     let k = kind(rec, t, o);
@@ -168,7 +170,7 @@ fn sunk_on(rec: &[u8], t: &NetWords, q: usize) -> u32
 // TAKEN of place q: by the events as their input place, and by the close as a sink.
 fn consumed(rec: &[u8], t: &NetWords, q: usize) -> u32
     requires ready { Ready t.now rec.now }
-    requires q_bound { q < (net_in t.now).places }
+    requires known_place { q < (net_in t.now).places }
     ensures { result ≡ stored_consumed (net_in t.now) (state_at rec.now) q }
 {
     let by_events = taken_by_events(rec, t, q);
@@ -212,8 +214,8 @@ fn transfers(rec: &[u8], t: &NetWords) -> u32
 // Reads the counts of place q.
 pub fn read_place(rec: &[u8], t: &NetWords, q: u32) -> PlaceRead
     requires { Ready t.now rec.now }
-    ensures value { result ≡ place_read rec.now q }
-    ensures result_value { place_read_code result ≡ place_code rec.now q }
+    ensures answer { result ≡ place_read rec.now q }
+    ensures code { place_read_code result ≡ place_code rec.now q }
 {
     let i = wide(q);
     if net_lookup::places(t) <= i {
@@ -229,8 +231,8 @@ pub fn read_place(rec: &[u8], t: &NetWords, q: u32) -> PlaceRead
 // Reads the counts of activity a.
 pub fn read_act(rec: &[u8], t: &NetWords, a: u32) -> ActRead
     requires { Ready t.now rec.now }
-    ensures value { result ≡ act_read rec.now a }
-    ensures result_value { act_read_code result ≡ act_code rec.now a }
+    ensures answer { result ≡ act_read rec.now a }
+    ensures code { act_read_code result ≡ act_code rec.now a }
 {
     let i = wide(a);
     if net_lookup::acts(t) <= i {
@@ -246,8 +248,8 @@ pub fn read_act(rec: &[u8], t: &NetWords, a: u32) -> ActRead
 // Reads the jump count from place `from` to place `to`.
 pub fn read_pair(rec: &[u8], t: &NetWords, from: u32, to: u32) -> PairRead
     requires { Ready t.now rec.now }
-    ensures value { result ≡ pair_read rec.now from to }
-    ensures result_value { pair_read_code result ≡ pair_code rec.now from to }
+    ensures answer { result ≡ pair_read rec.now from to }
+    ensures code { pair_read_code result ≡ pair_code rec.now from to }
 {
     let n = net_lookup::places(t);
     let x = wide(from);

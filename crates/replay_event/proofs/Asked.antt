@@ -4,28 +4,30 @@ use mathlib.Core.Bool.{Bool, true, false, not}
 use mathlib.Core.Path.{◌≡◌, refl, ap, sym, ◌∙◌}
 use mathlib.Core.List.{List, [], ◌∷◌, ◌++◌, append_assoc}
 use native.Mathlib.Omega.{arith}
-use lib.Dec.{leb}
+use lib.Dec.{leb, eqb}
+use borrow.Author.Tests.{le-leb}
 use lib.ListN.{length, get_or, take, drop, length-map, length-append}
 use lib.Seq.{take_at, drop_at}
 use Rattle.words.specs.Lists.{any, twice}
 use Rattle.words.specs.Refusals.{first}
 use Rattle.words.specs.Words.{words_of, bytes_of}
-use Rattle.words.proofs.Lists.{All-at, map_at}
+use Rattle.words.proofs.Lists.{All-at, map_at, not_eqb}
 use Rattle.words.proofs.Words.{length-words, length-bytes, words-of-bytes}
 use Rattle.net.specs.Net.{Net, GoodArc, takes, input_of, output_of}
 use Rattle.net.specs.Held.{net_in}
 use Rattle.net.proofs.IndexLaws.{arc-has}
-use Rattle.replay.specs.Plain.{object_kinds, object_tests}
+use Rattle.replay.specs.Plain.{object_kinds, object_tests, ask_event}
+use Rattle.replay.specs.State.{answer_s}
 use Rattle.replay.specs.Record.{counts, counts_size, contents, encode, table_in, state_in}
 use Rattle.replay.specs.Calls.{net_at, state_at}
-use Rattle.replay_layout.specs.Offsets.{layout_of, events_at, jumps_at}
+use Rattle.replay_layout.specs.Offsets.{layout_of, closed_at, events_at, jumps_at}
 use Rattle.replay.specs.Ready.{Ready, KnownKinds}
 use Rattle.replay.specs.Register.{kinds_in}
 use Rattle.replay_event.specs.Answers.{ObjectCode, Counted, Moving}
 use Rattle.replay_layout.specs.declared.Layout.{Layout}
 use Rattle.replay.proofs.Encode.{fit-kinds}
 use Rattle.replay_layout.proofs.RecordLaws.{Placed, get-events, ready-loaded, ready-sound, ready_words, ready-length}
-use Rattle.replay_moves.proofs.Layouts.{placed_at, words_size, words-few, kind-of-in}
+use Rattle.replay_moves.proofs.Layouts.{placed_at, words_size, words-few, kind-of-in, closed-read}
 use Rattle.replay.specs.Limits.{max_record, max_words}
 
 -- what the tests of an event's objects give
@@ -68,6 +70,14 @@ module _ (w b : List ℕ) (l : Layout) (R : Ready w b) (e : l ≡ layout_of (net
 
   pub register-known : KnownKinds (net_in w) (kinds_in (net_in w) (take (4 * l.positions - 4 * l.register) (drop (4 * l.register) b)))
   register-known = rw register-words (record { kind = λ o h. kind-of-in w b l R e o (omega (arith, placed.kinds-size)) })
+
+-- an open record that holds too many events
+pub is_full : (w b : List ℕ) (l : Layout) (a : ℕ) (os : List ℕ) → Ready w b → l ≡ layout_of (net_in w) b
+    → get_or (words_of b) (closed_at l) 0 ≡ 0 → 1000000 ≤ get_or (words_of b) (events_at l) 0
+    → 22 ≡ answer_s (net_in w) (state_at b) (ask_event a os)
+is_full w b l a os R e h n =
+    let t1 : not (eqb (state_at b).closed 0) ≡ false = not_eqb _ _ (sym (closed-read w b l R e) ∙ h) in
+    rw (t1, le-leb 1000000 (state_at b).events (rw (events-read w b l R e) at n))
 
 module _ (w b : List ℕ) (l : Layout) (a : ℕ) (os : List ℕ) (C : Counted w b l a os) where
   pub few-objects : length os ≤ 8

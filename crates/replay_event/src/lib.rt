@@ -3,6 +3,8 @@
 // Above `replay_moves`, which moves an object, `replay_objects`, which tests them, and `replay`, whose definitions its contracts
 // cite.
 
+#![tactic(auto)]
+
 ghost use Rattle.std.specs.Prelude.{◌≡◌};
 ghost use Rattle.words.specs.Refusals.{first};
 ghost use Rattle.words.specs.Words.{words_of};
@@ -64,9 +66,10 @@ fn test_objects(rec: &[u8], t: &NetWords, lay: Layout, act: usize, objs: &[u8]) 
 }
 
 // 21 to 27: the first that applies.
+#[tactic(auto, using(crate::proofs::Asked::is_full))]
 fn refuse(rec: &[u8], t: &NetWords, lay: Layout, act: usize, objs: &[u8]) -> EventAnswer
     requires ready { Ready t.now rec.now }
-    requires lay_value { lay ≡ layout_of (net_in t.now) rec.now }
+    requires laid_out { lay ≡ layout_of (net_in t.now) rec.now }
     ensures code { event_answer_code result ≡ answer_s (net_in t.now) (state_at rec.now) (ask_event act (words_of objs.now)) }
 {
     if words::get_word(rec, closed_at(lay)) != 0 {
@@ -116,7 +119,7 @@ fn take_event(rec: &mut [u8], t: &NetWords, lay: Layout, act: usize, objs: &[u8]
 // Carries out an event to which none of 21 to 27 applies, as the caller has found; it is not tested again.
 pub fn apply(rec: &mut [u8], t: &NetWords, act: u32, objs: &[u8])
     requires ready { Ready t.now rec.old }
-    requires objs_value { ask_code rec.old (ask_event act (words_of objs.now)) ≡ 0 }
+    requires accepted { ask_code rec.old (ask_event act (words_of objs.now)) ≡ 0 }
     ensures { rec.new ≡ ask_bytes rec.old (ask_event act (words_of objs.now)) }
 {
     let lay = read_layout(rec, t);

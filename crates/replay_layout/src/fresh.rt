@@ -11,7 +11,7 @@ use net::NetWords;
 // How many bytes the record takes, by those of the table and by the register.
 pub fn record_bytes(t: &NetWords, table: usize, register: &[u8]) -> usize
     requires held { Held t.now }
-    requires table_le_max_table { (table ≤ max_table) × Registered (net_in t.now) register.now }
+    requires bounded { (table ≤ max_table) × Registered (net_in t.now) register.now }
     ensures { result ≡ fresh_bytes (net_in t.now) table register.now }
 {
     let positions = replay_rows::position_bytes(replay_rows::objects(register, t));
@@ -21,7 +21,7 @@ pub fn record_bytes(t: &NetWords, table: usize, register: &[u8]) -> usize
 // Where the bodies stand, by how many numbers the table has and by the register.
 pub fn layout(t: &NetWords, table: usize, register: &[u8]) -> Layout
     requires held { Held t.now }
-    requires table_bound { (table ≤ max_table / 4) × Registered (net_in t.now) register.now }
+    requires bounded { (table ≤ max_table / 4) × Registered (net_in t.now) register.now }
     ensures { result ≡ fresh_layout (net_in t.now) table register.now }
 {
     let n = replay_rows::objects(register, t);

@@ -3,6 +3,8 @@
 // Above `replay`, whose records it reads, and `replay_rows`, which knows the rows. The calls on a trail use it, and the
 // checkpoints, for the bodies' sizes and where each count stands.
 
+#![tactic(auto)]
+
 ghost use Rattle.std.specs.Prelude.{◌≡◌, ◌+◌, ◌*◌, ◌/◌, ◌≤◌, ◌<◌, length, get_or};
 ghost use Rattle.words.specs.Words.{word, words_of};
 ghost use Rattle.words.specs.Put.{Put};
@@ -36,7 +38,7 @@ pub const FIRED: usize = 3;
 pub const JUMPS: usize = 4;
 
 // Where the bodies behind the table start, counted in four-byte numbers, and how many objects and places there are.
-#[derive(Drop)]
+#[derive(Clone, Copy)]
 pub struct Layout {
     pub register: usize,
     pub positions: usize,
@@ -57,7 +59,7 @@ fn quarter(rec: &[u8], at: usize) -> usize
 // The layout that a record's contents give, with the number of places of its net.
 pub fn read_layout(rec: &[u8], t: &NetWords) -> Layout
     requires held { Held t.now }
-    requires record_head_in_bounds { record_head ≤ length rec.now }
+    requires head_room { record_head ≤ length rec.now }
     ensures { result ≡ layout_of (net_in t.now) rec.now }
 {
     Layout {

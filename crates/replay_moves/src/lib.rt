@@ -1,6 +1,8 @@
 // One object of an event or of the close: it is sought on a place, jumps there from any other, and is left on a place.
 // Above `replay_layout`, whose offsets it uses. `replay_event` and `replay_close` move objects by it, and share its laws.
 
+#![tactic(auto)]
+
 ghost use Rattle.std.specs.Prelude.{◌≡◌, ◌+◌, ◌≤◌, eqb};
 ghost use Rattle.words.specs.Lists.{pick};
 ghost use Rattle.words.specs.Words.{words_of};

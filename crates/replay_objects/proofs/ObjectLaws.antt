@@ -1,5 +1,5 @@
 -- What is left to find in an event's objects, one after the other. Assumes nothing.
-use Prim.Native.Nat.{ℕ, ◌+◌, ◌≤◌, ◌<◌}
+use Prim.Native.Nat.{ℕ, ◌+◌, ◌/◌, ◌≤◌, ◌<◌}
 use mathlib.Core.Bool.{Bool, true, false, not}
 use mathlib.Core.Path.{◌≡◌, refl, ap, subst, ◌∙◌}
 use mathlib.Core.List.{List, [], ◌∷◌}
@@ -7,16 +7,22 @@ use native.Mathlib.Nat.{add-zero}
 use native.Mathlib.Numerals.{add-one}
 use native.Mathlib.Omega.{arith}
 use lib.Dec.{leb, eqb}
-use lib.ListN.{length, get_or, set, take, drop, length-map}
+use lib.ListN.{length, get_or, set, take, drop, length-map, drop_of_length-le}
 use lib.Seq.{sets, drop-cons, length-sets}
 use borrow.Author.Tests.{le-leb, lt-leb, ne_eqb}
 use Rattle.words.specs.Lists.{pick, any, one}
 use Rattle.net.specs.Net.{Net, takes}
+use Rattle.words.specs.Words.{words_of}
+use Rattle.words.proofs.Words.{length-words}
 use Rattle.words.proofs.Sets.{view-same}
 use Rattle.replay.specs.Plain.{object_kinds}
 
 pub next : (os : List ℕ) (i : ℕ) → i < length os → drop i os ≡ get_or os i 0 ∷ drop (i + 1) os
 next os i h = rw add-one (drop-cons os i 0 h)
+
+-- past the last object none is left
+pub none_left : (bytes : List ℕ) (i : ℕ) → length bytes / 4 ≤ i → drop i (words_of bytes) ≡ []
+none_left bytes i h = drop_of_length-le (words_of bytes) {i = i} (omega (arith, length-words bytes))
 
 -- 25, else 26, else what was found before, by the objects left
 abbrev pub kinds_left : Net → List ℕ → ℕ → List ℕ → ℕ → ℕ

@@ -2,6 +2,8 @@
 // Above `replay`, whose definitions its contracts cite, `replay_rows` and `net_lookup`. The calls on a trail, the checkpoints
 // and the trace files use it.
 
+#![tactic(auto)]
+
 mod kinds;
 pub mod objects;
 pub mod register;

@@ -20,7 +20,7 @@ use words::{get_word, wide};
 // 1 where the activity does not take kind k, else 0.
 fn foreign(t: &NetWords, act: usize, k: usize) -> u32
     requires held { Held t.now }
-    requires act_bound { (act < (net_in t.now).acts) × (k < (net_in t.now).kinds) }
+    requires known_act { (act < (net_in t.now).acts) × (k < (net_in t.now).kinds) }
     ensures { (result ≡ one (not (takes (net_in t.now) act k))) × (result ≤ 1) }
 {
     if takes_kind(t, act, k) {
@@ -31,10 +31,11 @@ fn foreign(t: &NetWords, act: usize, k: usize) -> u32
 
 // 25, 26 or 0, by the objects, four bytes each: 25 of any of them before 26 of any. Where it is 0, their kinds are put into
 // `kinds`.
+#[tactic(auto, using(crate::proofs::ObjectLaws::none_left))]
 fn take_kinds(objs: &[u8], act: usize, register: &[u8], t: &NetWords, kinds: &mut [u32; 8]) -> u32
     requires held { Held t.now }
     requires known_kinds { KnownKinds (net_in t.now) (kinds_in (net_in t.now) register.now) }
-    requires objs_len_bound { (length (words_of objs.now) ≤ 8) × (act < (net_in t.now).acts) }
+    requires bounded { (length (words_of objs.now) ≤ 8) × (act < (net_in t.now).acts) }
     ensures code { result ≡ first (known_tests (net_in t.now) (kinds_in (net_in t.now) register.now) act (words_of objs.now)) }
     ensures kinds { result ≡ 0 → kinds.new ≡ sets kinds.old 0 (object_kinds (kinds_in (net_in t.now) register.now) (words_of objs.now)) }
 {
@@ -62,7 +63,7 @@ fn take_kinds(objs: &[u8], act: usize, register: &[u8], t: &NetWords, kinds: &mu
 pub fn refuse_objects(objs: &[u8], act: usize, register: &[u8], t: &NetWords) -> u32
     requires held { Held t.now }
     requires known_kinds { KnownKinds (net_in t.now) (kinds_in (net_in t.now) register.now) }
-    requires objs_len_bound { (length (words_of objs.now) ≤ 8) × (act < (net_in t.now).acts) }
+    requires bounded { (length (words_of objs.now) ≤ 8) × (act < (net_in t.now).acts) }
     ensures code { result ≡ first (object_tests (net_in t.now) (kinds_in (net_in t.now) register.now) act (words_of objs.now)) }
 {
     let mut kinds = [0u32; 8];

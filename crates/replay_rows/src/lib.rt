@@ -3,6 +3,8 @@
 // Above `replay`, whose definitions its contracts cite. `replay_layout` finds a record's rows by it; the tests of registers and
 // positions, starting and trace files read theirs through it.
 
+#![tactic(auto)]
+
 ghost use Rattle.std.specs.Prelude.{◌≡◌, ◌/◌, ◌≤◌, ◌<◌, length, get_or};
 ghost use Rattle.net.specs.Held.{net_in};
 ghost use Rattle.replay.specs.Register.{row_bytes, max_register, whole_body, whole_rows, kind_index, kinds_in, position_bytes, place_index, places_in};

@@ -171,3 +171,14 @@ module _ (table objects lent : List ℕ) where
     taken h =
         let e : start_code table (kinds_in (net_of table) objects) (length lent) ≡ 0 = last-test ∙ rw (le-ltb (length lent) (length (start_record table (kinds_in (net_of table) objects))) h) in
         (sym e, rw (eq-eqb (start_code table (kinds_in (net_of table) objects) (length lent)) 0 e))
+
+-- where 11 or 12 refuses the register it is the answer; a refused start leaves the bytes
+pub code_refused : (w table objects lent : List ℕ) → Startable w table objects → 0 < register_code (net_in w) (kinds_in (net_in w) objects)
+    → register_code (net_in w) (kinds_in (net_in w) objects) ≡ start_code table (kinds_in (net_in w) objects) (length lent)
+code_refused w table objects lent S h =
+    let code_is : register_code (net_in w) (kinds_in (net_in w) objects) ≡ register_code (net_of table) (kinds_in (net_in w) objects) = ap (λ (N : Net). register_code N (kinds_in (net_in w) objects)) S.tabled.net in
+    (register-refused table objects lent (register_code (net_in w) (kinds_in (net_in w) objects)) h code_is).0
+
+pub bytes_left : (table ks lent : List ℕ) → 0 < start_code table ks (length lent) → lent ≡ start_bytes table ks lent
+unfolding start_bytes
+bytes_left table ks lent h = rw (ne_eqb (start_code table ks (length lent)) 0 (λ z. omega (arith, z)))

@@ -2,6 +2,8 @@
 // Above `net_lookup`, `replay_objects`, which refuses a register, `replay_layout`, which lays out the record, and `replay`, whose
 // definitions its contracts cite. The program and the C calls start by it.
 
+#![tactic(auto)]
+
 ghost use Rattle.std.specs.Prelude.{◌≡◌, map, ℕ, ◌+◌, ◌<◌, ◌≤◌, length, get_or, set, replicate};
 ghost use Rattle.std.proofs.lemmas.List.Edits.{sets};
 ghost use Rattle.words.specs.Lists.{All};
@@ -34,8 +36,8 @@ pub enum StartAnswer {
 
 // A contents pair, from number i on.
 fn put_pair(out: &mut [u8], i: usize, at: usize, size: usize)
-    requires i_in_bounds { i + 1 < length (words_of out.old) }
-    requires at_bound { (at < 4294967296) × (size < 4294967296) }
+    requires inside { i + 1 < length (words_of out.old) }
+    requires fits { (at < 4294967296) × (size < 4294967296) }
     ensures { words_of out.new ≡ set (set (words_of out.old) i at) (i + 1) size }
 {
     words::put_word(out, i, at as u32);
@@ -51,8 +53,8 @@ fn put_contents(
     counts: usize,
     pairs: usize,
 )
-    requires head_words_in_bounds { head_words ≤ length (words_of out.old) }
-    requires table_bound { (table ≤ 20000) × (register ≤ 20000) × (positions ≤ 20000) × (counts ≤ 20000) × (pairs ≤ 20000) }
+    requires head_room { head_words ≤ length (words_of out.old) }
+    requires bounded { (table ≤ 20000) × (register ≤ 20000) × (positions ≤ 20000) × (counts ≤ 20000) × (pairs ≤ 20000) }
     ensures { words_of out.new ≡ sets (words_of out.old) 0 (contents_of table register positions counts pairs) }
 {
     let kinds = HEAD + table;
@@ -81,8 +83,8 @@ fn copy_words(s: &[u8], out: &mut [u8], base: usize)
 // Object o's row of the positions: it stands on its kind's source.
 fn put_source(t: &NetWords, objects: &[u8], out: &mut [u8], lay: Layout, o: usize)
     requires held { Held t.now }
-    requires all { All (λ (k : ℕ). k < (net_in t.now).kinds) (kinds_in (net_in t.now) objects.now) }
-    requires o_in_bounds { (o < length (kinds_in (net_in t.now) objects.now)) × (place_at lay o < length (words_of out.old)) }
+    requires known_kinds { All (λ (k : ℕ). k < (net_in t.now).kinds) (kinds_in (net_in t.now) objects.now) }
+    requires known_object { (o < length (kinds_in (net_in t.now) objects.now)) × (place_at lay o < length (words_of out.old)) }
     ensures { words_of out.new ≡ set (words_of out.old) (place_at lay o) (get_or (map (net_in t.now).source (kinds_in (net_in t.now) objects.now)) o 0) }
 {
     let k = words::wide(replay_rows::kind(objects, t, o));
@@ -93,8 +95,8 @@ fn put_source(t: &NetWords, objects: &[u8], out: &mut [u8], lay: Layout, o: usiz
 // The positions: each object stands on its kind's source.
 fn put_sources(t: &NetWords, objects: &[u8], out: &mut [u8], lay: Layout)
     requires held { Held t.now }
-    requires all { All (λ (k : ℕ). k < (net_in t.now).kinds) (kinds_in (net_in t.now) objects.now) }
-    requires objects_in_bounds { place_at lay (length (kinds_in (net_in t.now) objects.now)) ≤ length (words_of out.old) }
+    requires known_kinds { All (λ (k : ℕ). k < (net_in t.now).kinds) (kinds_in (net_in t.now) objects.now) }
+    requires room { place_at lay (length (kinds_in (net_in t.now) objects.now)) ≤ length (words_of out.old) }
     ensures { words_of out.new ≡ sets (words_of out.old) lay.positions (map (net_in t.now).source (kinds_in (net_in t.now) objects.now)) }
 {
     let n = replay_rows::objects(objects, t);
@@ -120,8 +122,8 @@ fn put_zeros(out: &mut [u8], base: usize, n: usize)
 // The record, into bytes that have just room for it.
 fn fill(t: &NetWords, table: &[u8], objects: &[u8], out: &mut [u8])
     requires startable { Startable t.now table.now objects.now }
-    requires objects_value { register_code (net_of table.now) (kinds_in (net_in t.now) objects.now) ≡ 0 }
-    requires out_len { length out.old ≡ length (start_record table.now (kinds_in (net_in t.now) objects.now)) }
+    requires registered { register_code (net_of table.now) (kinds_in (net_in t.now) objects.now) ≡ 0 }
+    requires exact { length out.old ≡ length (start_record table.now (kinds_in (net_in t.now) objects.now)) }
     ensures { out.new ≡ start_record table.now (kinds_in (net_in t.now) objects.now) }
 {
     let counts = replay_layout::counts_bytes(t);
@@ -138,8 +140,8 @@ fn fill(t: &NetWords, table: &[u8], objects: &[u8], out: &mut [u8])
 // Starting with a register to which neither 11 nor 12 applies.
 fn write_start(t: &NetWords, table: &[u8], objects: &[u8], rec: &mut [u8]) -> StartAnswer
     requires startable { Startable t.now table.now objects.now }
-    requires objects_value { register_code (net_of table.now) (kinds_in (net_in t.now) objects.now) ≡ 0 }
-    ensures result_value { start_answer_code result ≡ start_code table.now (kinds_in (net_in t.now) objects.now) (length rec.old) }
+    requires registered { register_code (net_of table.now) (kinds_in (net_in t.now) objects.now) ≡ 0 }
+    ensures code { start_answer_code result ≡ start_code table.now (kinds_in (net_in t.now) objects.now) (length rec.old) }
     ensures rec_after { rec.new ≡ start_bytes table.now (kinds_in (net_in t.now) objects.now) rec.old }
 {
     let size = fresh::record_bytes(t, table.len(), objects);
@@ -152,9 +154,10 @@ fn write_start(t: &NetWords, table: &[u8], objects: &[u8], rec: &mut [u8]) -> St
 
 // Starts a trail: its record in front of the lent bytes. `table` is the table file whose net `t` holds, `objects` the
 // register, the kind of each object. Where it is refused no byte changes.
+#[tactic(auto, using(crate::proofs::StartLaws::code_refused, crate::proofs::StartLaws::bytes_left))]
 pub fn start(t: &NetWords, table: &[u8], objects: &[u8], rec: &mut [u8]) -> StartAnswer
     requires { Startable t.now table.now objects.now }
-    ensures result_value { start_answer_code result ≡ start_code table.now (kinds_in (net_in t.now) objects.now) (length rec.old) }
+    ensures code { start_answer_code result ≡ start_code table.now (kinds_in (net_in t.now) objects.now) (length rec.old) }
     ensures rec_after { rec.new ≡ start_bytes table.now (kinds_in (net_in t.now) objects.now) rec.old }
 {
     let code = register_refusal(objects, t);

@@ -1,6 +1,8 @@
 // The numbers that a trail's record stores, each looked up by its offset.
 // Above `replay_layout`, which knows the offsets. `replay_counts` sums what it reads.
 
+#![tactic(auto)]
+
 ghost use Rattle.std.specs.Prelude.{◌≡◌, ◌<◌, ◌≤◌, length, get_or};
 ghost use Rattle.net.specs.Held.{net_in};
 ghost use Rattle.replay.specs.State.{stored_pair};
@@ -51,7 +53,7 @@ pub fn objects(rec: &[u8], t: &NetWords) -> usize
 // The kind of object o.
 pub fn kind(rec: &[u8], t: &NetWords, o: usize) -> usize
     requires ready { Ready t.now rec.now }
-    requires o_in_bounds { o < length (state_at rec.now).kinds }
+    requires known_object { o < length (state_at rec.now).kinds }
     ensures { (result ≡ get_or (state_at rec.now).kinds o 0) × (result < (net_in t.now).kinds) }
 {
     let lay = read_layout(rec, t);
@@ -61,7 +63,7 @@ pub fn kind(rec: &[u8], t: &NetWords, o: usize) -> usize
 // FIRED of activity a.
 pub fn fired(rec: &[u8], t: &NetWords, a: usize) -> u32
     requires ready { Ready t.now rec.now }
-    requires a_bound { a < (net_in t.now).acts }
+    requires known_act { a < (net_in t.now).acts }
     ensures { (result ≡ get_or (state_at rec.now).fired a 0) × (result ≤ 1000000) }
 {
     let lay = read_layout(rec, t);
@@ -71,7 +73,7 @@ pub fn fired(rec: &[u8], t: &NetWords, a: usize) -> u32
 // JUMPS of activity a.
 pub fn jumps_of(rec: &[u8], t: &NetWords, a: usize) -> u32
     requires ready { Ready t.now rec.now }
-    requires a_bound { a < (net_in t.now).acts }
+    requires known_act { a < (net_in t.now).acts }
     ensures { (result ≡ get_or (state_at rec.now).jumps a 0) × (result ≤ 8000000) }
 {
     let lay = read_layout(rec, t);
@@ -81,7 +83,7 @@ pub fn jumps_of(rec: &[u8], t: &NetWords, a: usize) -> u32
 // The jump count from place x to place y.
 pub fn pair(rec: &[u8], t: &NetWords, x: usize, y: usize) -> u32
     requires ready { Ready t.now rec.now }
-    requires x_bound { (x < (net_in t.now).places) × (y < (net_in t.now).places) }
+    requires known_places { (x < (net_in t.now).places) × (y < (net_in t.now).places) }
     ensures { (result ≡ stored_pair (net_in t.now) (state_at rec.now) x y) × (result ≤ 8001024) }
 {
     let lay = read_layout(rec, t);

@@ -1,0 +1,17 @@
+-- What is left to store after i objects. Assumes nothing.
+use Prim.Native.Nat.{◌-◌, ◌≤◌}
+use mathlib.Core.Path.{◌≡◌}
+use lib.ListN.{length, drop}
+use lib.Seq.{sets}
+use Rattle.words.specs.Words.{words_of}
+use mathlib.Core.List.{map}
+use Rattle.net.specs.Held.{net_in}
+use Rattle.replay.specs.Register.{kinds_in}
+use Rattle.replay_layout.specs.Offsets.{place_at}
+use Rattle.replay_start.proofs.put_sources.Given as goal
+
+abbrev pub invariant-loop-o : goal.invariant-loop-o
+invariant-loop-o l = (l.n ≡ length (kinds_in (net_in l.t) l.objects)) × (l.o ≤ l.n) × (length l.out ≡ length l.initial.out) × (sets (words_of l.out) (place_at l.lay l.o) (drop l.o (map (net_in l.t).source (kinds_in (net_in l.t) l.objects))) ≡ sets (words_of l.initial.out) l.lay.positions (map (net_in l.t).source (kinds_in (net_in l.t) l.objects)))
+
+abbrev pub decreases-loop-o : goal.decreases-loop-o
+decreases-loop-o l = l.n - l.o

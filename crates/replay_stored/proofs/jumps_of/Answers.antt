@@ -1,0 +1,23 @@
+-- The second number of the activity's row. Assumes nothing.
+use Prim.Native.Nat.{ℕ}
+use mathlib.Core.Path.{ap, ◌∙◌}
+use native.Mathlib.Omega.{arith}
+use lib.ListN.{get_or}
+use Rattle.words.specs.Words.{words_of}
+use Rattle.replay_layout.proofs.RecordLaws.{ready-contents}
+use Rattle.replay_stored.proofs.StoredLaws.{has-jumps, jumps-few}
+use Rattle.replay_stored.proofs.jumps_of.Goals as goal
+
+pub read_layout-lay-requires : goal.read_layout-lay-requires
+read_layout-lay-requires c = record { held = c.requires.ready.held; head_room = ready-contents _ _ c.requires.ready }
+
+pub jumps_at-requires : goal.jumps_at-requires
+jumps_at-requires c = (has-jumps _ _ c.requires.ready _ c.read_layout-lay.ensures c.args.a c.requires.known_act).small
+
+pub get_word-requires : goal.get_word-requires
+get_word-requires c = rw c.jumps_at.ensures (has-jumps _ _ c.requires.ready _ c.read_layout-lay.ensures c.args.a c.requires.known_act).there
+
+pub returns : goal.returns
+returns c =
+    let e = c.get_word.ensures ∙ ap (λ (i : ℕ). get_or (words_of c.args.rec.now) i 0) c.jumps_at.ensures ∙ (has-jumps _ _ c.requires.ready _ c.read_layout-lay.ensures c.args.a c.requires.known_act).is in
+    (e, omega (arith, e, jumps-few _ _ c.requires.ready c.args.a c.requires.known_act))
