@@ -2,11 +2,13 @@
 // Above `words`, `net` and `replay`. Of code it has only the numbers of the answers: `checkpoint_judge` and `checkpoint_restore`
 // do the work.
 
+#![tactic(auto)]
+
 ghost use Rattle.std.specs.Prelude.{◌≡◌};
 ghost use Rattle.checkpoint.specs.Answers.{restore_answer_code, restore_answer_second, saved_code};
 
 // The answer to checking a record, and to taking it up. `restore_answer_code` and `restore_answer_second` give document 01's numbers.
-#[derive(Drop)]
+#[derive(Clone, Copy)]
 pub enum RestoreAnswer {
     Taken,
     // 41: length under 40 or over 29,844.

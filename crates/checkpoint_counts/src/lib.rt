@@ -1,6 +1,8 @@
 // Test 46 on the bytes of register and counts.
 // Above `net_lookup`, `replay_rows` and `replay_layout`, which says where each count stands; `checkpoint` has the definitions.
 
+#![tactic(auto)]
+
 ghost use Rattle.std.specs.Prelude.{not, [], ◌∷◌, ◌≡◌, ℕ, ◌+◌, ◌*◌, ◌<◌, ◌≤◌, ltb, eqb, length, get_or};
 ghost use Rattle.words.specs.Lists.{either, any_to, sum_to, both};
 ghost use Rattle.words.specs.Words.{words_of};
@@ -47,7 +49,7 @@ fn jumps_above(fired: u32, arcs: usize, jumps: u32) -> bool
 // JUMPS above MOVED, for some activity.
 fn some_jumps_above(cs: &[u8], t: &NetWords) -> bool
     requires held { Held t.now }
-    requires cs_len { length (words_of cs.now) ≡ counts_size (net_in t.now) }
+    requires sized { length (words_of cs.now) ≡ counts_size (net_in t.now) }
     ensures { result ≡ any_to (net_in t.now).acts (λ (a : ℕ). ltb (get_or (words_of cs.now) (fired_index a) 0 * length ((net_in t.now).arcs a)) (get_or (words_of cs.now) (jumps_index a) 0)) }
 {
     let n = net_lookup::acts(t);

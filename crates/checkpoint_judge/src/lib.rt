@@ -2,6 +2,8 @@
 // Above `checkpoint_positions`, `checkpoint_counts` and `checkpoint_jumps`, which have 45, 46 and 47; `checkpoint` has the
 // definitions.
 
+#![tactic(auto)]
+
 ghost use Rattle.std.specs.Prelude.{◌≡◌};
 ghost use Rattle.net.specs.Held.{net_in, Held};
 ghost use Rattle.checkpoint.specs.Answers.{restore_answer_code, restore_answer_second};
@@ -28,8 +30,8 @@ fn begins_closed(cs: &[u8]) -> bool
 // The register's bytes, then those of positions, counts and jumps.
 pub fn judge(ks: &[u8], ps: &[u8], cs: &[u8], js: &[u8], t: &NetWords) -> RestoreAnswer
     requires { Held t.now }
-    ensures result_value { restore_answer_code result ≡ judge_code (net_in t.now) ks.now ps.now cs.now js.now }
-    ensures result_value_2 { restore_answer_second result ≡ judge_second (net_in t.now) ks.now ps.now cs.now js.now }
+    ensures code { restore_answer_code result ≡ judge_code (net_in t.now) ks.now ps.now cs.now js.now }
+    ensures second { restore_answer_second result ≡ judge_second (net_in t.now) ks.now ps.now cs.now js.now }
 {
     if !whole(ks, t) {
         return RestoreAnswer::Objects(0);

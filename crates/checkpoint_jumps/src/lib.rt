@@ -2,6 +2,8 @@
 // Above `net_lookup`, `replay_rows`, `replay_layout`, which says where each count stands, and `checkpoint_counts`, which sums the
 // counts; `checkpoint` has the definitions.
 
+#![tactic(auto)]
+
 ghost use Rattle.std.specs.Prelude.{[], ◌≡◌, ℕ, ◌+◌, ◌*◌, ◌<◌, ◌≤◌, ltb, eqb, length, get_or};
 ghost use Rattle.words.specs.Lists.{pick, any_to, sum_to};
 ghost use Rattle.words.specs.Words.{words_of};
@@ -25,7 +27,7 @@ use words::wide;
 // The count v where place y is not of kind k, else 0.
 fn foreign_count(t: &NetWords, k: usize, y: usize, v: u64) -> u64
     requires held { Held t.now }
-    requires y_bound { y < (net_in t.now).places }
+    requires known_place { y < (net_in t.now).places }
     ensures { result ≡ pick (eqb k ((net_in t.now).kind_of y)) 0 v }
 {
     if k == net_lookup::kind_of(t, y) {
@@ -37,11 +39,11 @@ fn foreign_count(t: &NetWords, k: usize, y: usize, v: u64) -> u64
 // Row x of the jumps: its counts are added to the columns' sums. The sum of those that no jump can have.
 fn add_row(js: &[u8], t: &NetWords, x: usize, into: &mut [u64; 64]) -> u64
     requires held { Held t.now }
-    requires x_bound { (x < (net_in t.now).places) × (length (words_of js.now) ≡ (net_in t.now).places * (net_in t.now).places) }
+    requires known_places { (x < (net_in t.now).places) × (length (words_of js.now) ≡ (net_in t.now).places * (net_in t.now).places) }
     requires at_most { AtMost (net_in t.now).places (x * 4294967296) into.old }
-    ensures value { (result ≡ barred_in (net_in t.now) js.now x) × (result ≤ 279172874240) }
+    ensures barred { (result ≡ barred_in (net_in t.now) js.now x) × (result ≤ 279172874240) }
     ensures added { Added (net_in t.now).places into.old into.new (pair_in (net_in t.now) js.now x) }
-    ensures at_most_2 { AtMost (net_in t.now).places (x * 4294967296 + 4294967296) into.new }
+    ensures still_at_most { AtMost (net_in t.now).places (x * 4294967296 + 4294967296) into.new }
 {
     let n = net_lookup::places(t);
     let k = net_lookup::kind_of(t, x);
@@ -60,11 +62,11 @@ fn add_row(js: &[u8], t: &NetWords, x: usize, into: &mut [u64; 64]) -> u64
 // All rows.
 fn add_rows(js: &[u8], t: &NetWords, into: &mut [u64; 64]) -> u64
     requires held { Held t.now }
-    requires js_len { length (words_of js.now) ≡ (net_in t.now).places * (net_in t.now).places }
+    requires sized { length (words_of js.now) ≡ (net_in t.now).places * (net_in t.now).places }
     requires at_most { AtMost (net_in t.now).places 0 into.old }
-    ensures value { result ≡ sum_to (net_in t.now).places (barred_in (net_in t.now) js.now) }
+    ensures barred { result ≡ sum_to (net_in t.now).places (barred_in (net_in t.now) js.now) }
     ensures added { Added (net_in t.now).places into.old into.new (λ (y : ℕ). sum_to (net_in t.now).places (λ (x : ℕ). pair_in (net_in t.now) js.now x y)) }
-    ensures at_most_2 { AtMost (net_in t.now).places 274877906944 into.new }
+    ensures still_at_most { AtMost (net_in t.now).places 274877906944 into.new }
 {
     let n = net_lookup::places(t);
     let mut off = 0;
@@ -78,7 +80,7 @@ fn add_rows(js: &[u8], t: &NetWords, into: &mut [u64; 64]) -> u64
 
 // The first n sums together.
 fn sum_row(into: &[u64; 64], n: usize) -> u64
-    requires n_bound { n ≤ 64 }
+    requires bounded { n ≤ 64 }
     requires at_most { AtMost n 274877906944 into.now }
     ensures { result ≡ sum_to n (λ (q : ℕ). get_or into.now q 0) }
 {
@@ -94,7 +96,7 @@ fn sum_row(into: &[u64; 64], n: usize) -> u64
 // What `fired` events of activity a take of kind k.
 fn take_kind(t: &NetWords, a: usize, k: usize, fired: u32, taken: &mut [u64; 64])
     requires held { Held t.now }
-    requires a_bound { (a < (net_in t.now).acts) × (k < (net_in t.now).kinds) }
+    requires known_act { (a < (net_in t.now).acts) × (k < (net_in t.now).kinds) }
     requires at_most { AtMost (net_in t.now).places 2199023255552 taken.old }
     ensures { Added (net_in t.now).places taken.old taken.new (λ (q : ℕ). fired * taken_by (net_in t.now) a q k) }
 {
@@ -108,10 +110,10 @@ fn take_kind(t: &NetWords, a: usize, k: usize, fired: u32, taken: &mut [u64; 64]
 // What `fired` events of activity a take, of all kinds.
 fn take_arcs(t: &NetWords, a: usize, fired: u32, taken: &mut [u64; 64])
     requires held { Held t.now }
-    requires a_bound { a < (net_in t.now).acts }
+    requires known_act { a < (net_in t.now).acts }
     requires at_most { AtMost (net_in t.now).places (a * 34359738368) taken.old }
     ensures added { Added (net_in t.now).places taken.old taken.new (λ (q : ℕ). fired * inputs (net_in t.now) q a) }
-    ensures at_most_2 { AtMost (net_in t.now).places (a * 34359738368 + 34359738368) taken.new }
+    ensures still_at_most { AtMost (net_in t.now).places (a * 34359738368 + 34359738368) taken.new }
 {
     let n = net_lookup::kinds(t);
     let mut k = 0;
@@ -124,10 +126,10 @@ fn take_arcs(t: &NetWords, a: usize, fired: u32, taken: &mut [u64; 64])
 // What all events take.
 fn take_inputs(cs: &[u8], t: &NetWords, taken: &mut [u64; 64])
     requires held { Held t.now }
-    requires cs_len { length (words_of cs.now) ≡ counts_size (net_in t.now) }
+    requires sized { length (words_of cs.now) ≡ counts_size (net_in t.now) }
     requires at_most { AtMost (net_in t.now).places 0 taken.old }
     ensures added { Added (net_in t.now).places taken.old taken.new (λ (q : ℕ). sum_to (net_in t.now).acts (λ (a : ℕ). get_or (words_of cs.now) (fired_index a) 0 * inputs (net_in t.now) q a)) }
-    ensures at_most_2 { AtMost (net_in t.now).places 2199023255552 taken.new }
+    ensures still_at_most { AtMost (net_in t.now).places 2199023255552 taken.new }
 {
     let n = net_lookup::acts(t);
     let mut a = 0;
@@ -140,7 +142,7 @@ fn take_inputs(cs: &[u8], t: &NetWords, taken: &mut [u64; 64])
 // What the close takes: each of its objects (`closers`: the whole register) from its sink.
 fn take_sinks(ks: &[u8], t: &NetWords, taken: &mut [u64; 64])
     requires held { Held t.now }
-    requires ks_value { register_code (net_in t.now) (kinds_in (net_in t.now) ks.now) ≡ 0 }
+    requires registered { register_code (net_in t.now) (kinds_in (net_in t.now) ks.now) ≡ 0 }
     requires at_most { AtMost (net_in t.now).places 2199023255552 taken.old }
     ensures { Added (net_in t.now).places taken.old taken.new (sunk_on (net_in t.now) (closer_kinds (kinds_in (net_in t.now) ks.now))) }
 {
@@ -156,7 +158,7 @@ fn take_sinks(ks: &[u8], t: &NetWords, taken: &mut [u64; 64])
 // What the close takes where there was one.
 fn take_closed(ks: &[u8], closed: u32, t: &NetWords, taken: &mut [u64; 64])
     requires held { Held t.now }
-    requires ks_value { (register_code (net_in t.now) (kinds_in (net_in t.now) ks.now) ≡ 0) × (closed ≤ 1) }
+    requires registered { (register_code (net_in t.now) (kinds_in (net_in t.now) ks.now) ≡ 0) × (closed ≤ 1) }
     requires at_most { AtMost (net_in t.now).places 2199023255552 taken.old }
     ensures { Added (net_in t.now).places taken.old taken.new (λ (q : ℕ). closed * sunk_on (net_in t.now) (closer_kinds (kinds_in (net_in t.now) ks.now)) q) }
 {

@@ -1,6 +1,8 @@
 // Test 45 on the bytes of register and positions.
 // Above `net_lookup` and `replay_rows`, which reads the rows; `checkpoint` has the definitions.
 
+#![tactic(auto)]
+
 ghost use Rattle.std.specs.Prelude.{[], ◌≡◌, ◌<◌, length};
 ghost use Rattle.net.specs.Held.{net_in, Held};
 ghost use Rattle.replay.specs.Plain.{register_code};
@@ -16,7 +18,7 @@ use words::wide;
 // An object of kind k on place p. Its sink is a known place of its kind.
 fn bad_position(t: &NetWords, k: usize, p: usize, closed: bool) -> bool
     requires held { Held t.now }
-    requires k_bound { k < (net_in t.now).kinds }
+    requires known_kind { k < (net_in t.now).kinds }
     ensures { result ≡ bad_position (net_in t.now) closed k p }
 {
     if closed {
@@ -32,7 +34,7 @@ fn bad_position(t: &NetWords, k: usize, p: usize, closed: bool) -> bool
 // whose close took every object (`closers`).
 pub fn bad_positions(ks: &[u8], ps: &[u8], t: &NetWords, closed: bool) -> bool
     requires held { Held t.now }
-    requires ks_value { register_code (net_in t.now) (kinds_in (net_in t.now) ks.now) ≡ 0 }
+    requires registered { register_code (net_in t.now) (kinds_in (net_in t.now) ks.now) ≡ 0 }
     ensures { result ≡ hit (tests45 (net_in t.now) (body_state (net_in t.now) ks.now ps.now [] []) (length ps.now) closed) }
 {
     let n = objects(ks, t);

@@ -210,6 +210,12 @@ module _ (b : List ℕ) where
   unfolding restore_code
   too_long g h = let e : 41 ≡ restore_code b = rw (le-ltb (length b) 40 g, lt-ltb max_record (length b) h) in (e, alone 41 e refl refl)
 
+  pub short_second : length b < 40 → 0 ≡ restore_second b
+  short_second h = (too_short h).1
+
+  pub long_second : 40 ≤ length b → max_record < length b → 0 ≡ restore_second b
+  long_second g h = (too_long g h).1
+
   pub not-laid : 40 ≤ length b → length b ≤ max_record → ends_at (length b) (bodies_of record_bodies b) ≡ false → (42 ≡ restore_code b) × (0 ≡ restore_second b)
   unfolding restore_code
   not-laid g h e = let q : 42 ≡ restore_code b = rw (le-ltb (length b) 40 g, le-ltb max_record (length b) h, e) in (q, alone 42 q refl refl)

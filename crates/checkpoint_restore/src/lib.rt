@@ -1,6 +1,8 @@
 // Taking up a checkpoint, with the refusals 41 to 47, and putting one down, in lent bytes.
 // Above `checkpoint_judge`, which tests the bodies behind the table, and `net_loader`; `checkpoint` has the definitions.
 
+#![tactic(auto)]
+
 ghost use Rattle.std.specs.Prelude.{◌≡◌, ◌≤◌, length, replicate};
 ghost use Rattle.words.specs.Lists.{over};
 ghost use Rattle.checkpoint.specs.Restore.{restore_code, restore_second};
@@ -18,8 +20,8 @@ use words::wide;
 // 44 to 47, of a record whose table is loaded.
 fn check_bodies(rec: &[u8], t: &NetWords) -> RestoreAnswer
     requires { Opened rec.now t.now }
-    ensures result_value { restore_answer_code result ≡ restore_code rec.now }
-    ensures result_value_2 { restore_answer_second result ≡ restore_second rec.now }
+    ensures code { restore_answer_code result ≡ restore_code rec.now }
+    ensures second { restore_answer_second result ≡ restore_second rec.now }
 {
     let k = wide(words::word_at(rec, 8));
     let p = wide(words::word_at(rec, 16));
@@ -31,9 +33,9 @@ fn check_bodies(rec: &[u8], t: &NetWords) -> RestoreAnswer
 // 43 to 47, of a record whose contents are laid out.
 fn check_table(rec: &[u8], t: &mut NetWords) -> RestoreAnswer
     requires framed { Framed rec.now }
-    requires t_value { t.old ≡ replicate net_words 0 }
-    ensures result_value { restore_answer_code result ≡ restore_code rec.now }
-    ensures result_value_2 { restore_answer_second result ≡ restore_second rec.now }
+    requires fresh { t.old ≡ replicate net_words 0 }
+    ensures code { restore_answer_code result ≡ restore_code rec.now }
+    ensures second { restore_answer_second result ≡ restore_second rec.now }
     ensures opened { restore_code rec.now ≡ 0 → Opened rec.now t.new }
 {
     let end = HEAD + wide(words::word_at(rec, 4));
@@ -45,10 +47,11 @@ fn check_table(rec: &[u8], t: &mut NetWords) -> RestoreAnswer
 }
 
 // Checks a record, any bytes. The words t, all zero, are work space; where the record is taken, they hold its net.
+#[tactic(auto, using(crate::proofs::Opening::too_short, crate::proofs::Opening::too_long, crate::proofs::Opening::short_second, crate::proofs::Opening::long_second))]
 pub fn check(rec: &[u8], t: &mut NetWords) -> RestoreAnswer
     requires { t.old ≡ replicate net_words 0 }
-    ensures result_value { restore_answer_code result ≡ restore_code rec.now }
-    ensures result_value_2 { restore_answer_second result ≡ restore_second rec.now }
+    ensures code { restore_answer_code result ≡ restore_code rec.now }
+    ensures second { restore_answer_second result ≡ restore_second rec.now }
     ensures opened { restore_code rec.now ≡ 0 → Opened rec.now t.new }
 {
     if rec.len() < 40 {
@@ -78,8 +81,8 @@ fn copy_front(from: &[u8], to: &mut [u8])
 // The record, to which none of 41 to 47 applies, becomes the first bytes of the trail.
 fn put_trail(rec: &[u8], trail: &mut [u8]) -> RestoreAnswer
     requires { restore_code rec.now ≡ 0 }
-    ensures result_value { restore_answer_code result ≡ take_code rec.now (length trail.old) }
-    ensures result_value_2 { restore_answer_second result ≡ restore_second rec.now }
+    ensures code { restore_answer_code result ≡ take_code rec.now (length trail.old) }
+    ensures second { restore_answer_second result ≡ restore_second rec.now }
     ensures trail_after { trail.new ≡ take_bytes rec.now trail.old }
 {
     if trail.len() < rec.len() {
@@ -91,8 +94,8 @@ fn put_trail(rec: &[u8], trail: &mut [u8]) -> RestoreAnswer
 
 // Takes up a record, any bytes: its bytes become the first bytes of the trail. A refusal changes nothing.
 pub fn restore(rec: &[u8], trail: &mut [u8]) -> RestoreAnswer
-    ensures result_value { restore_answer_code result ≡ take_code rec.now (length trail.old) }
-    ensures result_value_2 { restore_answer_second result ≡ restore_second rec.now }
+    ensures code { restore_answer_code result ≡ take_code rec.now (length trail.old) }
+    ensures second { restore_answer_second result ≡ restore_second rec.now }
     ensures trail_after { trail.new ≡ take_bytes rec.now trail.old }
 {
     let mut t = [0u32; NET_WORDS];
@@ -105,7 +108,7 @@ pub fn restore(rec: &[u8], trail: &mut [u8]) -> RestoreAnswer
 
 // Puts down the record of a trail, which is the trail's bytes.
 pub fn save(trail: &[u8], lent: &mut [u8]) -> Saved
-    ensures result_value { saved_code result ≡ save_code trail.now (length lent.old) }
+    ensures code { saved_code result ≡ save_code trail.now (length lent.old) }
     ensures lent_after { lent.new ≡ save_bytes trail.now lent.old }
 {
     if lent.len() < trail.len() {
