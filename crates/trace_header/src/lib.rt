@@ -2,6 +2,8 @@
 // Above `replay_objects` and `replay_rows`, which knows the register's rows; `trace_reader` reads the events behind the register, `program_open` opens the trail that it
 // is given.
 
+#![tactic(auto)]
+
 ghost use Rattle.std.specs.Prelude.{◌≡◌, ◌-◌, ◌≤◌, length, take, drop};
 ghost use Rattle.words.specs.Refusals.{first};
 ghost use Rattle.net.specs.Held.{net_in, Held};

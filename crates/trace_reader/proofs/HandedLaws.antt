@@ -19,9 +19,10 @@ use Rattle.trace_reader.specs.declared.Found.{Found}
 use Rattle.trace_reader.specs.declared.Found.TheVariants as found
 use Rattle.trace_reader.specs.Answers.{found_code, nothing, unless}
 use Rattle.trace_reader.specs.Claims.{Handed, HandedOut}
-use Rattle.trace_reader.specs.Trace.{event_at, end_tests, read_tests, event_found, read_code, read_from, read_at_code, read_at}
+use Rattle.trace_reader.specs.Trace.{event_at, end_tests, end_found, read_tests, event_found, read_code, read_from, read_at_code, read_at}
 use Rattle.words.proofs.Words.{length_at}
 use Rattle.trace_reader.proofs.ObjectLaws.{bytes-objects, first-of-eight}
+use Rattle.trace_reader.proofs.ReadLaws.{window-end}
 
 -- an answer that is not refused is the other
 by_number : (c : ℕ) (a : Answer) (at : ℕ) → ((c ≡ 0) × (unless c a at ≡ a)) ⊎ (((unless c a at).found ≡ found.Refused c) × (c ≡ 0 → ⊥))
@@ -138,3 +139,10 @@ pub with-at-code : (N : Net) (ks : List ℕ) (accepted : ℕ) (f : List ℕ) (at
     → r ≡ read_at N ks accepted f at
     → (r ≡ read_at N ks accepted f at) × (found_code r.found ≡ read_at_code N ks accepted f at)
 with-at-code N ks accepted f at e = (e, ap (λ (a : Answer). found_code a.found) e ∙ read-at-code N ks accepted f at)
+
+-- a read through a window at the body's end
+pub end_read : (N : Net) (ks : List ℕ) (accepted : ℕ) (w : List ℕ) (body at : ℕ) {r : Answer} → at ≡ body → r ≡ end_found w 0 at → r ≡ read_from N ks accepted w 0 body at
+end_read N ks accepted w body at e d = d ∙ window-end N ks accepted w body at e
+
+pub end_code : (N : Net) (ks : List ℕ) (accepted : ℕ) (w : List ℕ) (body at : ℕ) {r : Answer} → at ≡ body → r ≡ end_found w 0 at → found_code r.found ≡ read_code N ks accepted w 0 body at
+end_code N ks accepted w body at e d = (with_code N ks accepted w 0 body at (end_read N ks accepted w body at e d)).1

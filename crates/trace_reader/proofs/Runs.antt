@@ -40,12 +40,12 @@ module _ (table : List ℕ) (good : load_code table ≡ 0) where
       accepted : r.accepted ≡ length p.events + length es
       taken : All (λ (c : ℕ). c ≡ 0) (answers N p (map event es))
 
-    module _ (from at n : ℕ) (p : Plain) (kinds : p.kinds ≡ ks) (still_Open : p.closed ≡ 0) (events : length p.events ≡ n) (S : Sound N (state_of N p)) where
+    module _ (from at n : ℕ) (p : Plain) (kinds : p.kinds ≡ ks) (still_open : p.closed ≡ 0) (events : length p.events ≡ n) (S : Sound N (state_of N p)) where
       abbrev here : Answer
       here = read_from N ks n f from body at
 
       accepts : here.found ≡ found.Event → answer N p (event (event_in here.event)) ≡ 0
-      accepts e = rw (kinds, still_Open, events) (handed N L ks n f from body at e).taken
+      accepts e = rw (kinds, still_open, events) (handed N L ks n f from body at e).taken
 
       ran-by : (d : Found) → here.found ≡ d → (es : List Event) (r : List ℕ → Followed)
           → (here.found ≡ found.Event → Ran (accept p (event (event_in here.event))) es (r (encode table (state_of N (accept p (event (event_in here.event)))))))
@@ -68,15 +68,15 @@ module _ (table : List ℕ) (good : load_code table ≡ 0) where
     ran : (k from at n : ℕ) (p : Plain) → p.kinds ≡ ks → p.closed ≡ 0 → length p.events ≡ n → Sound N (state_of N p)
         → Ran p (handed_out N ks f body k from at n) (followed N ks f body k (encode table (state_of N p)) from at n)
     unfolding followed handed_out
-    ran zero from at n p kinds still_Open events S = record { trail = refl; accepted = omega arith; taken = tt }
-    ran (suc k) from at n p kinds still_Open events S =
+    ran zero from at n p kinds still_open events S = record { trail = refl; accepted = omega arith; taken = tt }
+    ran (suc k) from at n p kinds still_open events S =
         let a : Answer = read_from N ks n f from body at in
         let e : Event = event_in a.event in
-        ran-by from at n p kinds still_Open events S a.found refl (handed_out N ks f body k (from + 8 + 4 * a.event.count) a.next.at (n + 1))
+        ran-by from at n p kinds still_open events S a.found refl (handed_out N ks f body k (from + 8 + 4 * a.event.count) a.next.at (n + 1))
         (λ (b : List ℕ). followed N ks f body k b (from + 8 + 4 * a.event.count) a.next.at (n + 1))
-        (λ q. ran k (from + 8 + 4 * a.event.count) a.next.at (n + 1) (accept p (event e)) kinds still_Open
+        (λ q. ran k (from + 8 + 4 * a.event.count) a.next.at (n + 1) (accept p (event e)) kinds still_open
         (omega (arith, length-append p.events (e ∷ [])))
-        (subst (λ (p : Plain). Sound N (state_of N p)) (next-is N p (event e) (accepts from at n p kinds still_Open events S q)) (sound-at table good p S (event e))))
+        (subst (λ (p : Plain). Sound N (state_of N p)) (next-is N p (event e) (accepts from at n p kinds still_open events S q)) (sound-at table good p S (event e))))
 
 -- Of a table that loads and a register that is taken: the trail that is left is the record of the plain run over the events
 -- handed out, each of which is accepted; and of that run closed, where no event was refused.

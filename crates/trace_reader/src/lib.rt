@@ -1,6 +1,8 @@
 // The cursor: it reads the events of a trail file one by one.
 // Above `trace_header`, which says where the events stand, `replay` and `net`; `program_step` uses it.
 
+#![tactic(auto)]
+
 ghost use Rattle.std.specs.Prelude.{◌≡◌, ◌+◌, ◌*◌, ◌≤◌, length, take, drop};
 ghost use Rattle.words.specs.Refusals.{first};
 ghost use Rattle.net.specs.Held.{net_in, Held};
@@ -163,6 +165,7 @@ fn window_at(file: &[u8], start: usize) -> &[u8]
 impl Cursor {
     // Reads through a window: the file's bytes from the position on, all of them or at least 40. `body` is the length of the
     // events body, `accepted` the number of events accepted before.
+    #[tactic(auto, using(crate::proofs::HandedLaws::end_read, crate::proofs::HandedLaws::end_code))]
     pub fn read_window(
         self,
         window: &[u8],
