@@ -1,6 +1,7 @@
 // Reading the case file: the numbers of a case go into a buffer; the last one, how many bytes of them are loaded, does not.
 
 use crate::show::{load, put_byte};
+use std::io::Write;
 
 // No number of numbers: the case cannot be read.
 const BAD: usize = 4294967295;
@@ -27,8 +28,8 @@ pub fn at(case: bool, number: usize, back: usize, count: usize) -> State {
     }
 }
 
-pub fn bad() {
-    io::write_all(libc::STDOUT_FILENO, b" bad case\n");
+pub fn bad<W: Write>(out: &mut W) {
+    let _ = out.write_all(b" bad case\n");
 }
 
 // One digit more, up to a number over 2^32 - 1.
@@ -73,16 +74,16 @@ fn repeat(b: &mut [u8; 4800], n: usize, back: usize, times: usize) -> usize {
 }
 
 // Loads the first bytes of the n numbers.
-fn attempt(b: &[u8; 4800], n: usize, size: usize) {
+fn attempt<W: Write>(out: &mut W, b: &[u8; 4800], n: usize, size: usize) {
     if 1200 < n {
-        return bad();
+        return bad(out);
     }
     if 4 * n < size {
-        return bad();
+        return bad(out);
     }
     let t: &[u8] = b;
-    load(&t[0..size]);
-    put_byte(b'\n');
+    load(out, &t[0..size]);
+    put_byte(out, b'\n');
 }
 
 // A byte of a case, before the end of its line: `5 ` puts 5, `16*32;` puts the last 16 numbers twice more.
@@ -97,13 +98,13 @@ fn digit(b: &mut [u8; 4800], l: State, c: u8) -> State {
 }
 
 // A byte of the file. A bar begins a case, and is written too.
-pub fn step(b: &mut [u8; 4800], l: State, c: u8) -> State {
+pub fn step<W: Write>(out: &mut W, b: &mut [u8; 4800], l: State, c: u8) -> State {
     if !l.case {
-        put_byte(c);
+        put_byte(out, c);
         return at(c == b'|', 0, 0, 0);
     }
     if c == b'\n' {
-        attempt(b, l.count, l.number);
+        attempt(out, b, l.count, l.number);
         return at(false, 0, 0, 0);
     }
     digit(b, l, c)

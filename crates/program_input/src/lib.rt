@@ -1,41 +1,66 @@
-// Reading the table file and standard input, and whether there are arguments. A read that fails counts as the end.
-// Above the kit's `io` and `os` alone; `program_events`, `program_open` and `conform` use it.
+// Reading the table file and standard input, and whether there are arguments. A read that fails counts as the end. Of an input
+// whose bytes are known, the bytes that are read are those that it loses from its front.
+// Above std alone; `program_events`, `program_open` and `conform` use it.
+
+#![tactic(auto)]
 
 ghost use Rattle.std.specs.Prelude.{◌≡◌, ◌-◌, ◌≤◌, length, take, drop};
-ghost use Rattle.io.specs.Counts.{IsPrefixLen};
+ghost use Rattle.std.specs.Io.KnownBytes.{Consumes};
+ghost use Rattle.program_input.specs.Counts.{IsPrefixLen, Passes};
+
+use std::env::{Env, FillError};
+use std::fs::{File, Files};
+use std::io::Read;
+
+// Reads until the buffer is full, the input ends or a read fails. Gives how many bytes stand at its front then.
+pub fn read_full<R: Read>(input: &mut R, buf: &mut [u8]) -> usize
+    ensures size { IsPrefixLen result buf.new }
+    ensures bytes { Consumes (R.remaining input.old) (R.remaining input.new) (take result buf.new) }
+{
+    let mut done = 0;
+    while done < buf.len() {
+        match input.read(&mut buf[done..]) {
+            Ok(0) | Err(_) => break,
+            Ok(n) => done += n,
+        }
+    }
+    done
+}
 
 // The file's first bytes, as many as fit, and how many there are. A file that cannot be opened has none.
-pub fn read_file(path: &[u8], out: &mut [u8]) -> usize
+pub fn read_file(files: &impl Files, path: &[u8], out: &mut [u8]) -> usize
     ensures { IsPrefixLen result out.new }
 {
-    let fd = os::open_read(path);
-    if fd < 0 {
+    let Ok(path) = str::from_utf8(path) else {
         return 0;
+    };
+    match File::open(files, path) {
+        Ok(mut file) => read_full(&mut file, out),
+        Err(_) => 0,
     }
-    let n = io::read_full(fd, out);
-    libc::close(fd);
-    n
 }
 
-// Reads at most n bytes of standard input, and at most as many as fit. Gives how many there are.
-pub fn read_some(buf: &mut [u8], n: usize) -> usize
-    ensures { (result ≤ n) × (result ≤ length buf.old) }
+// Reads at most n bytes of the input, and at most as many as fit. Gives how many there are.
+pub fn read_some<R: Read>(input: &mut R, buf: &mut [u8], n: usize) -> usize
+    ensures size { (result ≤ n) × (result ≤ length buf.old) }
+    ensures bytes { Consumes (R.remaining input.old) (R.remaining input.new) (take result buf.new) }
 {
     if n < buf.len() {
-        io::read_full(0, &mut buf[..n])
+        read_full(input, &mut buf[..n])
     } else {
-        io::read_full(0, buf)
+        read_full(input, buf)
     }
 }
 
-// Reads n bytes of standard input and keeps none of them. Gives how many there are.
-pub fn skip(n: usize) -> usize
-    ensures { result ≤ n }
+// Reads n bytes of the input and keeps none of them. Gives how many there are.
+pub fn skip<R: Read>(input: &mut R, n: usize) -> usize
+    ensures size { result ≤ n }
+    ensures bytes { Passes (R.remaining input.old) (R.remaining input.new) result }
 {
-    let mut buf = io::large_buffer();
+    let mut buf = [0u8; 65536];
     let mut left = n;
     while left > 0 {
-        let got = read_some(&mut buf, left);
+        let got = read_some(input, &mut buf, left);
         if got == 0 {
             return n - left;
         }
@@ -60,19 +85,21 @@ fn to_front(buf: &mut [u8], from: usize) -> usize
     n
 }
 
-// Moves the bytes from `from` on to the front and fills up from standard input. Gives how many bytes there are then: fewer
-// than fit where the input has ended.
-pub fn refill(buf: &mut [u8], from: usize) -> usize
+// Moves the bytes from `from` on to the front and fills up from the input. Gives how many bytes there are then: fewer than fit
+// where the input has ended.
+pub fn refill<R: Read>(input: &mut R, buf: &mut [u8], from: usize) -> usize
     requires { from ≤ length buf.old }
     ensures size { (length buf.old - from ≤ result) × (result ≤ length buf.old) }
     ensures kept { take (length buf.old - from) buf.new ≡ drop from buf.old }
+    ensures bytes { Consumes (R.remaining input.old) (R.remaining input.new) (drop (length buf.old - from) (take result buf.new)) }
 {
     let left = to_front(buf, from);
-    let got = io::read_full(0, &mut buf[left..]);
+    let got = read_full(input, &mut buf[left..]);
     left + got
 }
 
 // Whether the program was started with arguments, beside its own name.
-pub fn has_arguments() -> bool {
-    1 < os::arg_count()
+pub fn has_arguments(env: &impl Env) -> bool {
+    let mut front = [0u8; 1];
+    !matches!(env.arg(1, &mut front), Err(FillError::NotPresent))
 }
