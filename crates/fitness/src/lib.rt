@@ -1,6 +1,8 @@
 // FIT, 1 - jumps/transfers to the nearest thousandth, and its text over the start of lent bytes. Above `digits`, which gives three
 // digits at once; `text` puts it into fields. What is claimed of the rounding stands in `specs/Rounding.antt`.
 
+#![tactic(auto)]
+
 ghost use Rattle.std.specs.Prelude.{◌≡◌, ◌-◌, ◌≤◌, length};
 ghost use Rattle.words.specs.Lists.{over};
 ghost use Rattle.fitness.specs.Fitness.{nearest, most_shown, thousandths, fitness, fitness_text};

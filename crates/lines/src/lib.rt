@@ -1,6 +1,8 @@
 // A line of a word and fields in lent bytes: whole, or not at all where the part is shorter. Above `text`, which writes words and
 // fields. `report_lines` has the lines of the report.
 
+#![tactic(auto)]
+
 ghost use Rattle.std.specs.Prelude.{◌≡◌, [], ◌≤◌, length};
 ghost use Rattle.words.specs.Lists.{over};
 ghost use Rattle.lines.specs.Lines.{fields_text, line_of};
@@ -9,7 +11,7 @@ ghost use Rattle.lines.specs.Answer.{size_of, Writes};
 use text::field::{Field, Word};
 
 // The answer to writing a line. `line_answer_code` gives document 01's number.
-#[derive(Drop)]
+#[derive(Clone, Copy)]
 pub enum LineAnswer {
     // The line is in the lent part, and has this many bytes.
     Written(usize),

@@ -57,6 +57,8 @@ Short (f ∷ fs) [] = ⊥
 Short (f ∷ fs) (n ∷ ns) = (length (field_text f) ≤ n) × Short fs ns
 
 fields-short : (fs : List Field) (ns : List ℕ) → Short fs ns → length (fields_text fs) ≤ 1 + total (λ (n : ℕ). n) ns
+fields-short [] (n ∷ ns) s = elim s [ ]
+fields-short (f ∷ fs) [] s = elim s [ ]
 fields-short [] [] s = omega arith
 fields-short (f ∷ fs) (n ∷ ns) s = omega (arith, length-append (field_text f) (fields_text fs), s.0, fields-short fs ns s.1)
 

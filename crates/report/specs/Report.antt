@@ -1,6 +1,6 @@
 -- The whole report (the sheet), of a plain run and of a trail's bytes. The order of the jump lines is left free by the paper: it is
 -- row by row here, and a pair without jumps writes nothing.
-use Rattle.std.specs.Prelude.{ℕ, ◌+◌, List, [], ◌∷◌, ◌++◌, length}
+use Rattle.std.specs.Prelude.{ℕ, List, [], ◌∷◌, ◌++◌, length}
 use Rattle.words.specs.Lists.{upto}
 use Rattle.net.specs.Net.{Net}
 use Rattle.replay.specs.Plain.{Plain}

@@ -2,4 +2,6 @@
 // Above `replay_counts`, which reads the numbers, and `report_lines`, which writes them. `report_parts` puts the whole report
 // together.
 
+#![tactic(auto)]
+
 pub mod trail;

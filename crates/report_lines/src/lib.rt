@@ -1,6 +1,8 @@
 // The lines of the report (the sheet) in lent bytes, by their numbers: each whole, or not at all where the part is shorter.
 // Above `lines`. `report` takes the numbers from a trail, `program_output` writes refusals.
 
+#![tactic(auto)]
+
 ghost use Rattle.std.specs.Prelude.{[], ◌∷◌};
 ghost use Rattle.text.specs.declared.field.Field.TheVariants.{Number, Fitness};
 ghost use Rattle.lines.specs.Lines.{line_of};
@@ -85,6 +87,7 @@ pub fn act_line(act: u32, fired: u32, moved: u32, jumps: u32, out: &mut [u8]) ->
 }
 
 // `jump`: from, to, count. Nothing is written for a pair that has no jumps.
+#[tactic(auto, using(crate::proofs::JumpLaws::no_jumps, crate::proofs::JumpLaws::some_jumps), unfolding(lines::specs::Lines::line_of))]
 pub fn jump_line(from: u32, to: u32, count: u32, out: &mut [u8]) -> LineAnswer
     ensures { Writes [] (jump_line from to count) out.old result out.new }
 {

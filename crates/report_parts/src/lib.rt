@@ -1,6 +1,8 @@
 // The whole report (the sheet): its lines one behind the other, as many as fit a lent part.
 // Above `report`, which writes a line of a trail; `program_output` uses it.
 
+#![tactic(auto)]
+
 ghost use Rattle.std.specs.Prelude.{◌≡◌, [], ◌<◌};
 ghost use Rattle.net.specs.Held.{net_in, Held};
 ghost use Rattle.replay.specs.Ready.{Ready};
@@ -32,7 +34,7 @@ pub fn line_count(t: &NetWords) -> u32
 // Line i of the report.
 fn line(rec: &[u8], t: &NetWords, i: u32, out: &mut [u8]) -> LineAnswer
     requires ready { Ready t.now rec.now }
-    requires i_bound { i < lines_in rec.now }
+    requires known_line { i < lines_in rec.now }
     ensures { Writes [] (line_at rec.now i) out.old result out.new }
 {
     if i == 0 {

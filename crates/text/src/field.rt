@@ -8,7 +8,7 @@ ghost use Rattle.fitness.specs.Fitness.{fitness, fitness_text};
 ghost use Rattle.text.specs.Fields.{word_text, field_text};
 
 // The first word of a line.
-#[derive(Drop)]
+#[derive(Clone, Copy)]
 pub enum Word {
     Trail,
     Place,
@@ -18,7 +18,7 @@ pub enum Word {
 }
 
 // A field of a line, behind one space.
-#[derive(Drop)]
+#[derive(Clone, Copy)]
 pub enum Field {
     // Left out.
     Nothing,
@@ -60,8 +60,9 @@ pub fn put_word(w: Word, out: &mut [u8]) -> usize
 {
     let all: &[u8] = b"trailplaceactjumprefused";
     let at = word_start(w);
-    let end = at + word_width(w);
-    bytes::copy(&all[at..end], out)
+    let n = word_width(w);
+    out[..n].copy_from_slice(&all[at..at + n]);
+    n
 }
 
 // How many bytes a field takes, with the space before it.
