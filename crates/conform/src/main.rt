@@ -1,8 +1,10 @@
 // The program: it reads the route table `route.tab` and a trail from standard input, and writes the report (the sheet), or the
 // first refusal, to standard output. `program_text: program_text` says which. Proved of what `decide` gives back: it has the text
-// for the table file's bytes and some trail file. That standard input is that file, and that what is given back is what is
-// written, no contract can say, and is tested.
+// for the table file's bytes and some trail file; of `print`, that a writer which says what it holds has got the text where all of
+// it was written. That standard input is that file, and that standard output gets what is written, no contract can say, and is tested.
 // Above `net_loader`, `program_open`, which opens and follows the trail file, and `program_output`.
+
+#![tactic(auto)]
 
 ghost use Rattle.std.specs.Prelude.{◌≡◌, [], ◌≤◌, length, replicate};
 ghost use Rattle.net.specs.Limits.{net_words};
@@ -15,6 +17,7 @@ use program_input::{has_arguments, read_file};
 use program_open::read_trail;
 use program_output::{Ending, print};
 use replay_layout::MAX_RECORD;
+use std::io::{Read, Write};
 
 // Room for the longest record.
 fn record_buffer() -> [u8; MAX_RECORD]
@@ -31,9 +34,9 @@ fn net_buffer() -> NetWords
 }
 
 // What is to be printed, by the table file's bytes and what is read from standard input. The trail is left in the lent bytes.
-fn decide(table: &[u8], t: &mut NetWords, rec: &mut [u8]) -> Ending
-    requires t_value { t.old ≡ replicate net_words 0 }
-    requires max_record_in_bounds { max_record ≤ length rec.old }
+fn decide<R: Read>(input: &mut R, table: &[u8], t: &mut NetWords, rec: &mut [u8]) -> Ending
+    requires fresh { t.old ≡ replicate net_words 0 }
+    requires room { max_record ≤ length rec.old }
     ensures text { FromFile table.now [] 0 result rec.new }
     ensures printable { Printable t.new rec.new result }
 {
@@ -44,28 +47,29 @@ fn decide(table: &[u8], t: &mut NetWords, rec: &mut [u8]) -> Ending
             events: 0,
         };
     }
-    read_trail(table, t, rec)
+    read_trail(input, table, t, rec)
 }
 
 // Reads the table file, of which one byte more than a table may have is enough to refuse it, and prints what is to be printed.
-fn run() {
+fn run(rt: HostRuntime) {
     let mut table = [0u8; MAX_TABLE + 1];
     let mut t = net_buffer();
     let mut rec = record_buffer();
-    let n = read_file(b"route.tab", &mut table);
-    let ending = decide(&table[..n], &mut t, &mut rec);
-    if !print(ending, &rec, &t) {
-        io::write_all(2, b"conform: standard output cannot be written\n");
+    let n = read_file(&rt, b"route.tab", &mut table);
+    let ending = decide(&mut rt.stdin(), &table[..n], &mut t, &mut rec);
+    if !print(&mut rt.stdout(), ending, &rec, &t) {
+        let _ = rt
+            .stderr()
+            .write_all(b"conform: standard output cannot be written\n");
     }
 }
 
-fn main() {
-    if has_arguments() {
-        io::write_all(
-            2,
+fn main(rt: HostRuntime) {
+    if has_arguments(&rt) {
+        let _ = rt.stderr().write_all(
             b"usage: conform < TRAIL\nIt takes no arguments: the route table is the file route.tab, the trail is standard input.\n",
         );
         return;
     }
-    run();
+    run(rt);
 }

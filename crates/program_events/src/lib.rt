@@ -1,6 +1,9 @@
-// The events of a trail, carried out one by one in a window of its file that is filled up from standard input; then the close.
+// The events of a trail, carried out one by one in a window of its file that is filled up from standard input, which `conform`
+// hands in; then the close.
 // What is given back is what is to be printed: `conform` prints it.
 // Above `program_step`, `replay_close`, `program_output` and `program_input`; `program_open` uses it once a trail is started.
+
+#![tactic(auto)]
 
 ghost use Rattle.std.specs.Prelude.{◌≡◌, ◌≤◌, length, take};
 ghost use Rattle.net.specs.Held.{net_in};
@@ -15,6 +18,7 @@ use net::NetWords;
 use program_input::refill;
 use program_output::Ending;
 use program_step::{Outcome, Spot, step};
+use std::io::Read;
 
 // Reads and carries out events until it is over or fewer than `least` bytes of the window are left.
 fn steps(
@@ -26,8 +30,8 @@ fn steps(
     least: usize,
     start: Spot,
 ) -> Outcome
-    requires follows_2 { Follows t.now rec.old register.now start.accepted }
-    requires from_in_bounds { start.from ≤ length window.now }
+    requires followed { Follows t.now rec.old register.now start.accepted }
+    requires inside { start.from ≤ length window.now }
     ensures kept { Kept (net_in t.now) (kinds_in (net_in t.now) register.now) body (Window window.now least) rec.old start rec.new result }
     ensures follows { Follows t.now rec.new register.now result.spot.accepted }
     ensures inside { result.spot.from ≤ length window.now }
@@ -59,8 +63,8 @@ fn turn(
     n: usize,
     start: Spot,
 ) -> Outcome
-    requires follows_2 { Follows t.now rec.old register.now start.accepted }
-    requires from_le_n { (start.from ≤ n) × (n ≤ length buf.now) }
+    requires followed { Follows t.now rec.old register.now start.accepted }
+    requires inside { (start.from ≤ n) × (n ≤ length buf.now) }
     ensures kept { Kept (net_in t.now) (kinds_in (net_in t.now) register.now) body (Filled buf.now n) rec.old start rec.new result }
     ensures follows { Follows t.now rec.new register.now result.spot.accepted }
     ensures inside { result.spot.from ≤ n }
@@ -74,7 +78,8 @@ fn turn(
 
 // All events, turn by turn: each but the last carries out one event or more. The first n bytes of the buffer are those that
 // were read first; the others are read as they are needed.
-fn all_events(
+fn all_events<R: Read>(
+    input: &mut R,
     rec: &mut [u8],
     t: &NetWords,
     register: &[u8],
@@ -82,7 +87,7 @@ fn all_events(
     buf: &mut [u8],
     n: usize,
 ) -> Outcome
-    requires follows_2 { Follows t.now rec.old register.now 0 }
+    requires followed { Follows t.now rec.old register.now 0 }
     requires in_bounds { (40 ≤ length buf.old) × (n ≤ length buf.old) }
     ensures all { OfSomeFile (net_in t.now) (kinds_in (net_in t.now) register.now) body rec.old (take n buf.old) (length buf.old) (◌≡◌ (left_by rec.new result)) }
     ensures follows { Follows t.now rec.new register.now result.spot.accepted }
@@ -99,7 +104,7 @@ fn all_events(
             return s;
         }
         let spot = s.spot;
-        there = refill(buf, spot.from);
+        there = refill(input, buf, spot.from);
         start = Spot {
             from: 0,
             at: spot.at,
@@ -110,7 +115,8 @@ fn all_events(
 
 // Follows a trail that is started to its end: it is closed and is to be reported, or the first refusal is. The first n bytes of
 // the buffer are those that were read first from the events body on.
-pub fn follow(
+pub fn follow<R: Read>(
+    input: &mut R,
     rec: &mut [u8],
     t: &NetWords,
     register: &[u8],
@@ -123,7 +129,7 @@ pub fn follow(
     ensures ends { OfSomeFile (net_in t.now) (kinds_in (net_in t.now) register.now) body rec.old (take n buf.old) (length buf.old) (λ (d : Followed). (result ≡ ending_after d) × (rec.new ≡ closed_after d)) }
     ensures ready { Ready t.now rec.new }
 {
-    let s = all_events(rec, t, register, body, buf, n);
+    let s = all_events(input, rec, t, register, body, buf, n);
     let code = s.code;
     if code != 0 {
         let spot = s.spot;

@@ -1,9 +1,11 @@
-// The trail file on standard input, opened and followed: its contents, its register, then its events on the trail that is
-// started. Reading and deciding are apart: functions that read (`read_..`) hand the bytes to functions that decide, and these
-// give back what is to be printed. Proved of what is given back: it has the text for the table's bytes and a trail file of which
-// the bytes handed in are the front (`program_text: FromFile`). That standard input is that file no contract can say, and is
-// tested.
+// The trail file on standard input, which `conform` hands in, opened and followed: its contents, its register, then its events on
+// the trail that is started. Reading and deciding are apart: functions that read (`read_..`) hand the bytes to functions that
+// decide, and these give back what is to be printed. Proved of what is given back: it has the text for the table's bytes and a
+// trail file of which the bytes handed in are the front (`program_text: FromFile`). That standard input is that file no contract
+// can say, and is tested.
 // Above `trace_header`, `replay_start` and `program_events`; `conform` uses it once a table is loaded.
+
+#![tactic(auto)]
 
 ghost use Rattle.std.specs.Prelude.{◌≡◌, [], ◌%◌, ◌≤◌, length, take};
 ghost use Rattle.net.specs.Held.{net_in, Held, Tabled};
@@ -19,15 +21,17 @@ ghost use Rattle.program_text.specs.FromFile.{FromFile, BehindContents, BehindRe
 
 use net::NetWords;
 use program_events::follow;
-use program_input::{read_some, skip};
+use program_input::{read_full, read_some, skip};
 use program_output::Ending;
 use replay_layout::fresh::record_bytes;
 use replay_rows::most_bytes;
+use std::io::Read;
 use trace_header::{Contents, opening_refusal, read_contents};
 
 // A register that is not refused: the trail is started, which nothing can refuse here, and its events are followed. The first n
 // bytes of the buffer are those that were read first behind the register.
-fn begin(
+fn begin<R: Read>(
+    input: &mut R,
     table: &[u8],
     t: &NetWords,
     register: &[u8],
@@ -37,32 +41,40 @@ fn begin(
     n: usize,
 ) -> Ending
     requires startable { Startable t.now table.now register.now }
-    requires register_value { register_code (net_of table.now) (kinds_in (net_of table.now) register.now) ≡ 0 }
-    requires max_record_in_bounds { max_record ≤ length rec.old }
+    requires registered { register_code (net_of table.now) (kinds_in (net_of table.now) register.now) ≡ 0 }
+    requires room { max_record ≤ length rec.old }
     requires in_bounds { (40 ≤ length buf.old) × (n ≤ length buf.old) }
     ensures text { BehindRegister table.now register.now body (take n buf.old) (length buf.old) result rec.new }
     ensures printable { Printable t.now rec.new result }
 {
     replay_start::start(t, table, register, rec);
     let size = record_bytes(t, table.len(), register);
-    follow(&mut rec[..size], t, register, body, buf, n)
+    follow(input, &mut rec[..size], t, register, body, buf, n)
 }
 
 // Reads the first part of the events.
-fn read_events(table: &[u8], t: &NetWords, register: &[u8], body: usize, rec: &mut [u8]) -> Ending
+fn read_events<R: Read>(
+    input: &mut R,
+    table: &[u8],
+    t: &NetWords,
+    register: &[u8],
+    body: usize,
+    rec: &mut [u8],
+) -> Ending
     requires startable { Startable t.now table.now register.now }
-    requires register_value { register_code (net_of table.now) (kinds_in (net_of table.now) register.now) ≡ 0 }
-    requires max_record_in_bounds { max_record ≤ length rec.old }
+    requires registered { register_code (net_of table.now) (kinds_in (net_of table.now) register.now) ≡ 0 }
+    requires room { max_record ≤ length rec.old }
     ensures text { BehindRegister table.now register.now body [] 0 result rec.new }
     ensures printable { Printable t.now rec.new result }
 {
-    let mut buf = io::large_buffer();
-    let n = io::read_full(0, &mut buf);
-    begin(table, t, register, body, rec, &mut buf, n)
+    let mut buf = [0u8; 65536];
+    let n = read_full(input, &mut buf);
+    begin(input, table, t, register, body, rec, &mut buf, n)
 }
 
 // A register that claims so many bytes, of which those given are there.
-fn open_register(
+fn open_register<R: Read>(
+    input: &mut R,
     table: &[u8],
     t: &NetWords,
     claimed: usize,
@@ -71,9 +83,9 @@ fn open_register(
     rec: &mut [u8],
 ) -> Ending
     requires tabled { Tabled t.now table.now }
-    requires table_value { claimed % row_bytes (net_of table.now) ≡ 0 }
-    requires register_len_bound { length register.now ≤ claimed }
-    requires max_record_in_bounds { max_record ≤ length rec.old }
+    requires whole_rows { claimed % row_bytes (net_of table.now) ≡ 0 }
+    requires at_most_claimed { length register.now ≤ claimed }
+    requires room { max_record ≤ length rec.old }
     ensures text { BehindContents table.now claimed body register.now claimed result rec.new }
     ensures printable { Printable t.now rec.new result }
 {
@@ -81,20 +93,27 @@ fn open_register(
     if code != 0 {
         return Ending::Refused { code, events: 0 };
     }
-    read_events(table, t, register, body, rec)
+    read_events(input, table, t, register, body, rec)
 }
 
 // Reads a register that can be held whole.
-fn read_register(table: &[u8], t: &NetWords, claimed: usize, body: usize, rec: &mut [u8]) -> Ending
+fn read_register<R: Read>(
+    input: &mut R,
+    table: &[u8],
+    t: &NetWords,
+    claimed: usize,
+    body: usize,
+    rec: &mut [u8],
+) -> Ending
     requires tabled { Tabled t.now table.now }
-    requires table_value { (claimed % row_bytes (net_of table.now) ≡ 0) × (claimed ≤ max_register (net_of table.now)) }
-    requires max_record_in_bounds { max_record ≤ length rec.old }
+    requires whole_rows { (claimed % row_bytes (net_of table.now) ≡ 0) × (claimed ≤ max_register (net_of table.now)) }
+    requires room { max_record ≤ length rec.old }
     ensures text { BehindContents table.now claimed body [] 0 result rec.new }
     ensures printable { Printable t.now rec.new result }
 {
-    let mut register = io::buffer();
-    let there = read_some(&mut register, claimed);
-    open_register(table, t, claimed, body, &register[..there], rec)
+    let mut register = [0u8; 4096];
+    let there = read_some(input, &mut register, claimed);
+    open_register(input, table, t, claimed, body, &register[..there], rec)
 }
 
 // A register longer than the longest that is taken is counted and not held.
@@ -109,24 +128,37 @@ fn pass_register(t: &NetWords, claimed: usize, there: usize) -> Ending
 }
 
 // A trail file whose contents claim bodies of so many bytes.
-fn open_bodies(table: &[u8], t: &NetWords, claimed: usize, body: usize, rec: &mut [u8]) -> Ending
+fn open_bodies<R: Read>(
+    input: &mut R,
+    table: &[u8],
+    t: &NetWords,
+    claimed: usize,
+    body: usize,
+    rec: &mut [u8],
+) -> Ending
     requires tabled { Tabled t.now table.now }
-    requires table_value { claimed % row_bytes (net_of table.now) ≡ 0 }
-    requires max_record_in_bounds { max_record ≤ length rec.old }
+    requires whole_rows { claimed % row_bytes (net_of table.now) ≡ 0 }
+    requires room { max_record ≤ length rec.old }
     ensures text { BehindContents table.now claimed body [] 0 result rec.new }
     ensures printable { Printable t.now rec.new result }
 {
     if most_bytes(t) < claimed {
-        return pass_register(t, claimed, skip(claimed));
+        return pass_register(t, claimed, skip(input, claimed));
     }
-    read_register(table, t, claimed, body, rec)
+    read_register(input, table, t, claimed, body, rec)
 }
 
 // A trail file, by its first bytes, for a table that is loaded.
-fn open_trail(table: &[u8], t: &NetWords, head: &[u8], rec: &mut [u8]) -> Ending
+fn open_trail<R: Read>(
+    input: &mut R,
+    table: &[u8],
+    t: &NetWords,
+    head: &[u8],
+    rec: &mut [u8],
+) -> Ending
     requires tabled { Tabled t.now table.now }
-    requires head_len_bound { length head.now ≤ 16 }
-    requires max_record_in_bounds { max_record ≤ length rec.old }
+    requires head_short { length head.now ≤ 16 }
+    requires room { max_record ≤ length rec.old }
     ensures text { FromFile table.now head.now 16 result rec.new }
     ensures printable { Printable t.now rec.new result }
 {
@@ -135,18 +167,20 @@ fn open_trail(table: &[u8], t: &NetWords, head: &[u8], rec: &mut [u8]) -> Ending
             code: 71,
             events: 0,
         },
-        Contents::Bodies { register, events } => open_bodies(table, t, register, events, rec),
+        Contents::Bodies { register, events } => open_bodies(
+            input, table, t, register, events, rec,
+        ),
     }
 }
 
 // Reads the first bytes of the trail file.
-pub fn read_trail(table: &[u8], t: &NetWords, rec: &mut [u8]) -> Ending
+pub fn read_trail<R: Read>(input: &mut R, table: &[u8], t: &NetWords, rec: &mut [u8]) -> Ending
     requires tabled { Tabled t.now table.now }
-    requires max_record_in_bounds { max_record ≤ length rec.old }
+    requires room { max_record ≤ length rec.old }
     ensures text { FromFile table.now [] 0 result rec.new }
     ensures printable { Printable t.now rec.new result }
 {
     let mut head = [0u8; 16];
-    let n = io::read_full(0, &mut head);
-    open_trail(table, t, &head[..n], rec)
+    let n = read_full(input, &mut head);
+    open_trail(input, table, t, &head[..n], rec)
 }

@@ -6,7 +6,7 @@ use native.Mathlib.Omega.{arith}
 use lib.ListN.{length, take, drop, length-append, length-take}
 use lib.Seq.{take-append_seam}
 use borrow.Author.Tests.{le-ltb}
-use Rattle.io.specs.Counts.{IsPrefixLen}
+use Rattle.program_input.specs.Counts.{IsPrefixLen}
 use Rattle.words.specs.Lists.{over}
 use Rattle.text.specs.Decimal.{decimal}
 use Rattle.text.specs.declared.field.Word.TheVariants as word
@@ -17,7 +17,7 @@ use Rattle.lines.specs.Answer.{size_of, line_code, Writes}
 use Rattle.lines.specs.declared.LineAnswer.{LineAnswer}
 use Rattle.lines.proofs.LineLaws.{line-length}
 
-module _ (code events : ℕ) (Code-fits : code < 4294967296) (events-fit : events < 4294967296) where
+module _ (code events : ℕ) (code-fits : code < 4294967296) (events-fit : events < 4294967296) where
   refusal-short : length (refused_line code events) ≤ 64
   refusal-short = omega (
     arith,

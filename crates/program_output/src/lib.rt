@@ -1,15 +1,22 @@
-// What the program prints, on standard output: the report (the sheet), or the line of a refusal.
+// What the program prints, on the standard output that `conform` hands in: the report (the sheet), or the line of a refusal.
+// Promised of a writer that says what it holds, as a `Vec` does: where all of it was written, it holds the text more. Standard
+// output says nothing, so there it is tested.
 // Above `report_parts` and `report_lines`. `program_events`, `program_open` and `conform` say what is to be printed, and
 // `conform` has it printed.
 
-ghost use Rattle.std.specs.Prelude.{◌≡◌, ◌≤◌, length, take};
-ghost use Rattle.io.specs.Counts.{IsPrefixLen};
+#![tactic(auto)]
+
+ghost use Rattle.std.specs.Prelude.{◌≡◌, ◌≤◌, IsTrue, length, take};
+ghost use Rattle.std.specs.Io.KnownBytes.{Appends};
+ghost use Rattle.program_input.specs.Counts.{IsPrefixLen};
 ghost use Rattle.replay.specs.Ready.{Ready};
-ghost use Rattle.program_output.specs.Ending.{refusal_text, Printable};
+ghost use Rattle.report.specs.Report.{report_at};
+ghost use Rattle.program_output.specs.Ending.{refusal_text, ending_text, Printable};
 
 use lines::size;
 use net::NetWords;
 use report_parts::{line_count, put_lines};
+use std::io::Write;
 
 // What is to be printed. `ending_text` gives the text of each case.
 #[derive(Drop)]
@@ -33,24 +40,27 @@ fn refusal_line(ending: Ending, out: &mut [u8]) -> usize
 }
 
 // Prints the line of a refusal. Gives whether all of it was written.
-fn print_refusal(ending: Ending) -> bool {
+fn print_refusal<W: Write>(to: &mut W, ending: Ending) -> bool
+    ensures { IsTrue result → Appends (W.contents to.old) (W.contents to.new) (refusal_text ending) }
+{
     let mut out = [0u8; 64];
     let n = refusal_line(ending, &mut out);
-    io::write_all(1, &out[..n])
+    to.write_all(&out[..n]).is_ok()
 }
 
-// Prints the whole report, in parts of as many lines as fit the buffer: that they are the report is `parts_are` of `report_parts`.
+// Prints the whole report, in parts of as many lines as fit the buffer (`parts_are` of `report_parts` says the same of the parts).
 // Gives whether all of it was written; it stops where a part was not.
-fn print_report(rec: &[u8], t: &NetWords) -> bool
+fn print_report<W: Write>(to: &mut W, rec: &[u8], t: &NetWords) -> bool
     requires { Ready t.now rec.now }
+    ensures { IsTrue result → Appends (W.contents to.old) (W.contents to.new) (report_at rec.now) }
 {
-    let mut out = io::buffer();
+    let mut out = [0u8; 4096];
     let n = line_count(t);
     let mut i = 0;
     while i < n {
         let part = put_lines(rec, t, i, &mut out);
         let size = part.size;
-        if !io::write_all(1, &out[..size]) {
+        if !to.write_all(&out[..size]).is_ok() {
             return false;
         }
         i = part.next;
@@ -59,11 +69,12 @@ fn print_report(rec: &[u8], t: &NetWords) -> bool
 }
 
 // Prints what is to be printed; `rec` are the bytes lent for the trail. Gives whether all of it was written.
-pub fn print(ending: Ending, rec: &[u8], t: &NetWords) -> bool
+pub fn print<W: Write>(to: &mut W, ending: Ending, rec: &[u8], t: &NetWords) -> bool
     requires { Printable t.now rec.now ending }
+    ensures { IsTrue result → Appends (W.contents to.old) (W.contents to.new) (ending_text ending rec.now) }
 {
     match ending {
-        Ending::Report(n) => print_report(&rec[..n], t),
-        Ending::Refused { code: _, events: _ } => print_refusal(ending),
+        Ending::Report(n) => print_report(to, &rec[..n], t),
+        Ending::Refused { code: _, events: _ } => print_refusal(to, ending),
     }
 }

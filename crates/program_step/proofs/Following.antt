@@ -11,7 +11,7 @@ use Rattle.words.specs.Words.{words_of}
 use Rattle.words.proofs.Lists.{All-at, clash}
 use Rattle.net.specs.Net.{Net}
 use Rattle.net.specs.Held.{net_in}
-use Rattle.replay.specs.Plain.{Event, event, refusal}
+use Rattle.replay.specs.Plain.{Event, event, event_of, refusal}
 use Rattle.replay.specs.State.{State, accept_s}
 use Rattle.replay.specs.Calls.{state_at, ask_code, ask_bytes}
 use Rattle.replay.specs.Ready.{KnownKinds}
@@ -88,6 +88,28 @@ module _ (t rec register : List ℕ) (n : ℕ) (F : Follows t rec register n) wh
     read-bytes r q f =
         subst (λ (r : Answer). words_of (take (4 * r.event.count) (drop (from + 8) window)) ≡ take r.event.count r.event.objects) (sym q)
         (handed-bytes (net_in t) (ready-loaded t rec F.ready) (kinds_in (net_in t) register) n window from body at (sym (ap (λ (a : Answer). a.found) q) ∙ f))
+
+    -- An event that was read, its objects by the bytes in the window, where m is how many there are.
+    abbrev bytes_of_objects : ℕ → List ℕ
+    bytes_of_objects m = take (from + 8 + 4 * m - (from + 8)) (drop (from + 8) window)
+
+    pub record HandedAt (r : Answer) (m : ℕ) : Type 0 where
+      pub objects : words_of (bytes_of_objects m) ≡ take r.event.count r.event.objects
+      pub taken : refusal (net_in t) (kinds_in (net_in t) register) 0 n (event_of r.event.activity (words_of (bytes_of_objects m))) ≡ 0
+      pub room : n < 1000000
+      pub there : from + 8 + 4 * m ≤ length window
+
+    pub handed-at : (r : Answer) (m : ℕ) → m ≡ r.event.count → r ≡ read_in → r.found ≡ found.Event → HandedAt r m
+    handed-at r m e q f =
+        let h = read-handed r q f in
+        let k : from + 8 + 4 * m - (from + 8) ≡ 4 * r.event.count = omega (arith, e) in
+        let b : words_of (bytes_of_objects m) ≡ take r.event.count r.event.objects = ap (λ (k : ℕ). words_of (take k (drop (from + 8) window))) k ∙ read-bytes r q f in
+        record {
+          objects = b;
+          taken = subst (λ (os : List ℕ). refusal (net_in t) (kinds_in (net_in t) register) 0 n (event_of r.event.activity os) ≡ 0) (sym b) h.taken;
+          room = event-room (event_of r.event.activity (take r.event.count r.event.objects)) h.taken;
+          there = omega (arith, h.there, e);
+        }
 
 -- a step on a trail that is followed
 module _ (t rec register : List ℕ) (body : ℕ) (window : List ℕ) (s : Spot) (F : Follows t rec register s.accepted) (inside : s.from ≤ length window) where

@@ -1,6 +1,8 @@
 // One event of a trail, read at a spot of a window of its file and carried out.
 // Above `trace_reader` and `replay_event`; `program_events` carries out all events by it.
 
+#![tactic(auto)]
+
 ghost use Rattle.std.specs.Prelude.{◌≡◌, ◌≤◌, length};
 ghost use Rattle.net.specs.Held.{net_in};
 ghost use Rattle.replay.specs.Register.{kinds_in};
@@ -47,7 +49,7 @@ pub fn step(
     spot: Spot,
 ) -> Outcome
     requires follows { Follows t.now rec.old register.now spot.accepted }
-    requires from_in_bounds { spot.from ≤ length window.now }
+    requires inside { spot.from ≤ length window.now }
     ensures trail { rec.new ≡ step_trail (net_in t.now) (kinds_in (net_in t.now) register.now) window.now body rec.old spot }
     ensures outcome { result ≡ step_outcome (net_in t.now) (kinds_in (net_in t.now) register.now) window.now body spot }
 {

@@ -1,6 +1,7 @@
 -- What the program prints (document 01 "Trail file, program, sheet"), by the bytes of the table file and of the trail file. What the
 -- program's functions give back has this text, for a trail file of which the bytes that they were handed are the front
--- (`FromFile`). That standard input is that file, and that the text is what is written, no contract can say: it is tested.
+-- (`FromFile`), and `print` of `program_output` writes it, or says that not all of it was written. That standard input is that file,
+-- and that standard output gets what is written, no contract can say: it is tested.
 use Rattle.std.specs.Prelude.{ℕ, ◌+◌, ◌≡◌, List, [], ◌∷◌, ◌++◌, map, eqb}
 use Rattle.words.specs.Lists.{pick}
 use Rattle.words.specs.Words.{word}
