@@ -1,5 +1,7 @@
 // For measuring alone: the events of a trail file's body on a trail that is taken up once. No part of the marking client.
 
+#![tactic(auto)]
+
 ghost use Rattle.std.specs.Prelude.{◌≡◌, ◌+◌, ◌≤◌, length, get_or, drop};
 ghost use Rattle.words.specs.Words.{words_of};
 ghost use Rattle.replay.specs.Calls.{ask_code, ask_bytes};
@@ -14,7 +16,7 @@ use words::{get_word, wide};
 // Puts the event of the row at number `at` to the trail, and gives its number.
 fn put_row(trail: &mut [u8], t: &NetWords, events: &[u8], at: usize, count: usize) -> u32
     requires ready { Ready t.now trail.old }
-    requires count_in_bounds { (at + (2 + count) ≤ length (words_of events.now)) × (count ≡ get_or (drop at (words_of events.now)) 1 0) }
+    requires inside { (at + (2 + count) ≤ length (words_of events.now)) × (count ≡ get_or (drop at (words_of events.now)) 1 0) }
     ensures { (result ≡ ask_code trail.old (row_at (drop at (words_of events.now)))) × (trail.new ≡ ask_bytes trail.old (row_at (drop at (words_of events.now)))) }
 {
     let from = 4 * (at + 2);
@@ -47,7 +49,7 @@ fn run_events(trail: &mut [u8], t: &NetWords, events: &[u8]) -> u64
 // Takes up the trail and carries out the events: 41 to 47 with the second number of 43 and 44, or how many were accepted.
 #[unsafe(no_mangle)]
 pub extern "C" fn conform_bench_events(trail: &mut [u8], events: &[u8]) -> u64
-    ensures value { result ≡ events_answer trail.old events.now }
+    ensures answer { result ≡ events_answer trail.old events.now }
     ensures trail_after { trail.new ≡ events_leave trail.old events.now }
 {
     let mut t = [0u32; NET_WORDS];

@@ -2,6 +2,8 @@
 // Above all other libraries: each is one call of `client_start`, `client_trail` or `client_write`. Any bytes are taken or refused,
 // 41 to 47 before a call's own numbers and 61 last.
 
+#![tactic(auto)]
+
 ghost use Rattle.std.specs.Prelude.{◌≡◌, [], length};
 ghost use Rattle.replay.specs.Plain.{ask_event};
 ghost use Rattle.replay_close.specs.Answers.{ask_close};
@@ -26,7 +28,7 @@ pub extern "C" fn conform_load(table: &[u8]) -> u64
 // Starts a trail: 1 to 9 of the table, 11 and 12 of the objects' kinds, and 61; or its record in front of the lent bytes.
 #[unsafe(no_mangle)]
 pub extern "C" fn conform_start(table: &[u8], objects: &[u8], trail: &mut [u8]) -> u64
-    ensures value { result ≡ start_answer table.now objects.now (length trail.old) }
+    ensures answer { result ≡ start_answer table.now objects.now (length trail.old) }
     ensures trail_after { trail.new ≡ start_leaves table.now objects.now trail.old }
 {
     client_start::start(table, objects, trail)
@@ -35,7 +37,7 @@ pub extern "C" fn conform_start(table: &[u8], objects: &[u8], trail: &mut [u8]) 
 // An event on a trail: 21 to 27, or carried out in its bytes.
 #[unsafe(no_mangle)]
 pub extern "C" fn conform_event(trail: &mut [u8], activity: u32, objects: &[u8]) -> u64
-    ensures value { result ≡ ask_answer trail.old (ask_event activity (objects_in objects.now)) }
+    ensures answer { result ≡ ask_answer trail.old (ask_event activity (objects_in objects.now)) }
     ensures trail_after { trail.new ≡ ask_leaves trail.old (ask_event activity (objects_in objects.now)) }
 {
     client_trail::event(trail, activity, objects)
@@ -44,7 +46,7 @@ pub extern "C" fn conform_event(trail: &mut [u8], activity: u32, objects: &[u8])
 // Closes a trail: 31, or carried out in its bytes.
 #[unsafe(no_mangle)]
 pub extern "C" fn conform_close(trail: &mut [u8]) -> u64
-    ensures value { result ≡ ask_answer trail.old ask_close }
+    ensures answer { result ≡ ask_answer trail.old ask_close }
     ensures trail_after { trail.new ≡ ask_leaves trail.old ask_close }
 {
     client_trail::close(trail)
@@ -53,7 +55,7 @@ pub extern "C" fn conform_close(trail: &mut [u8]) -> u64
 // Takes up a record: 41 to 47 and 61, or its bytes in front of the trail's.
 #[unsafe(no_mangle)]
 pub extern "C" fn conform_restore(saved: &[u8], trail: &mut [u8]) -> u64
-    ensures value { result ≡ restore_answer saved.now (length trail.old) }
+    ensures answer { result ≡ restore_answer saved.now (length trail.old) }
     ensures trail_after { trail.new ≡ take_bytes saved.now trail.old }
 {
     client_start::restore(saved, trail)
@@ -62,7 +64,7 @@ pub extern "C" fn conform_restore(saved: &[u8], trail: &mut [u8]) -> u64
 // Puts down the record of a trail: 61, or in front of the lent bytes.
 #[unsafe(no_mangle)]
 pub extern "C" fn conform_save(trail: &[u8], lent: &mut [u8]) -> u64
-    ensures value { result ≡ save_answer trail.now (length lent.old) }
+    ensures answer { result ≡ save_answer trail.now (length lent.old) }
     ensures lent_after { lent.new ≡ save_leaves trail.now lent.old }
 {
     client_trail::save(trail, lent)
@@ -71,7 +73,7 @@ pub extern "C" fn conform_save(trail: &[u8], lent: &mut [u8]) -> u64
 // The line of the whole trail: 61, or the line in front of the lent bytes.
 #[unsafe(no_mangle)]
 pub extern "C" fn conform_trail_line(trail: &[u8], line: &mut [u8]) -> u64
-    ensures value { result ≡ write_answer trail.now [] (trail_line_at trail.now) line.old }
+    ensures answer { result ≡ write_answer trail.now [] (trail_line_at trail.now) line.old }
     ensures line_after { line.new ≡ write_leaves trail.now [] (trail_line_at trail.now) line.old }
 {
     write_text(trail, Line::Trail, line)
@@ -80,7 +82,7 @@ pub extern "C" fn conform_trail_line(trail: &[u8], line: &mut [u8]) -> u64
 // The line of a place: 51, 61, or the line.
 #[unsafe(no_mangle)]
 pub extern "C" fn conform_place_line(trail: &[u8], place: u32, line: &mut [u8]) -> u64
-    ensures value { result ≡ write_answer trail.now (place_tests trail.now place) (place_line_at trail.now place) line.old }
+    ensures answer { result ≡ write_answer trail.now (place_tests trail.now place) (place_line_at trail.now place) line.old }
     ensures line_after { line.new ≡ write_leaves trail.now (place_tests trail.now place) (place_line_at trail.now place) line.old }
 {
     write_text(trail, Line::Place(place), line)
@@ -89,7 +91,7 @@ pub extern "C" fn conform_place_line(trail: &[u8], place: u32, line: &mut [u8]) 
 // The line of an activity: 52, 61, or the line.
 #[unsafe(no_mangle)]
 pub extern "C" fn conform_act_line(trail: &[u8], activity: u32, line: &mut [u8]) -> u64
-    ensures value { result ≡ write_answer trail.now (act_tests trail.now activity) (act_line_at trail.now activity) line.old }
+    ensures answer { result ≡ write_answer trail.now (act_tests trail.now activity) (act_line_at trail.now activity) line.old }
     ensures line_after { line.new ≡ write_leaves trail.now (act_tests trail.now activity) (act_line_at trail.now activity) line.old }
 {
     write_text(trail, Line::Act(activity), line)
@@ -98,7 +100,7 @@ pub extern "C" fn conform_act_line(trail: &[u8], activity: u32, line: &mut [u8])
 // The line of the jumps from one place to another: 51, 61, or the line, which is nothing where there are none.
 #[unsafe(no_mangle)]
 pub extern "C" fn conform_jump_line(trail: &[u8], from: u32, to: u32, line: &mut [u8]) -> u64
-    ensures value { result ≡ write_answer trail.now (pair_tests trail.now from to) (jump_line_at trail.now from to) line.old }
+    ensures answer { result ≡ write_answer trail.now (pair_tests trail.now from to) (jump_line_at trail.now from to) line.old }
     ensures line_after { line.new ≡ write_leaves trail.now (pair_tests trail.now from to) (jump_line_at trail.now from to) line.old }
 {
     write_text(trail, Line::Jump(from, to), line)
@@ -107,7 +109,7 @@ pub extern "C" fn conform_jump_line(trail: &[u8], from: u32, to: u32, line: &mut
 // The numbers of the trail's line: objects, events, jumps, transfers.
 #[unsafe(no_mangle)]
 pub extern "C" fn conform_trail_counts(trail: &[u8], counts: &mut [u8]) -> u64
-    ensures value { result ≡ write_answer trail.now [] (trail_numbers trail.now) counts.old }
+    ensures answer { result ≡ write_answer trail.now [] (trail_numbers trail.now) counts.old }
     ensures counts_after { counts.new ≡ write_leaves trail.now [] (trail_numbers trail.now) counts.old }
 {
     write_numbers(trail, Line::Trail, counts)
@@ -116,7 +118,7 @@ pub extern "C" fn conform_trail_counts(trail: &[u8], counts: &mut [u8]) -> u64
 // The numbers of a place's line: its number, TAKEN, IN, OUT.
 #[unsafe(no_mangle)]
 pub extern "C" fn conform_place_counts(trail: &[u8], place: u32, counts: &mut [u8]) -> u64
-    ensures value { result ≡ write_answer trail.now (place_tests trail.now place) (place_numbers trail.now place) counts.old }
+    ensures answer { result ≡ write_answer trail.now (place_tests trail.now place) (place_numbers trail.now place) counts.old }
     ensures counts_after { counts.new ≡ write_leaves trail.now (place_tests trail.now place) (place_numbers trail.now place) counts.old }
 {
     write_numbers(trail, Line::Place(place), counts)
@@ -125,7 +127,7 @@ pub extern "C" fn conform_place_counts(trail: &[u8], place: u32, counts: &mut [u
 // The numbers of an activity's line: its number, FIRED, MOVED, JUMPS.
 #[unsafe(no_mangle)]
 pub extern "C" fn conform_act_counts(trail: &[u8], activity: u32, counts: &mut [u8]) -> u64
-    ensures value { result ≡ write_answer trail.now (act_tests trail.now activity) (act_numbers trail.now activity) counts.old }
+    ensures answer { result ≡ write_answer trail.now (act_tests trail.now activity) (act_numbers trail.now activity) counts.old }
     ensures counts_after { counts.new ≡ write_leaves trail.now (act_tests trail.now activity) (act_numbers trail.now activity) counts.old }
 {
     write_numbers(trail, Line::Act(activity), counts)
@@ -134,7 +136,7 @@ pub extern "C" fn conform_act_counts(trail: &[u8], activity: u32, counts: &mut [
 // The numbers of a pair's line: the two places and the jump count, also where that is 0.
 #[unsafe(no_mangle)]
 pub extern "C" fn conform_jump_count(trail: &[u8], from: u32, to: u32, counts: &mut [u8]) -> u64
-    ensures value { result ≡ write_answer trail.now (pair_tests trail.now from to) (pair_numbers trail.now from to) counts.old }
+    ensures answer { result ≡ write_answer trail.now (pair_tests trail.now from to) (pair_numbers trail.now from to) counts.old }
     ensures counts_after { counts.new ≡ write_leaves trail.now (pair_tests trail.now from to) (pair_numbers trail.now from to) counts.old }
 {
     write_numbers(trail, Line::Jump(from, to), counts)

@@ -1,6 +1,8 @@
 // Answers as numbers: the refusal's number in the low 32 bits, 0 where a call was taken, and a second number above it.
 // Above the libraries whose answers they are.
 
+#![tactic(auto)]
+
 ghost use Rattle.std.specs.Prelude.{◌≡◌, ◌≤◌};
 ghost use Rattle.replay_start.specs.StartAnswers.{start_answer_code};
 ghost use Rattle.replay_event.specs.Answers.{event_answer_code};

@@ -35,7 +35,7 @@ use Rattle.checkpoint.proofs.Demands.{Last, restores-at, last-ask, last-save, ba
 use Rattle.client_answers.specs.Answers.{packed, number}
 use Rattle.client_check.specs.Objects.{objects_in}
 use Rattle.client_calls.specs.Client.{start_answer, ask_answer, ask_leaves, restore_answer, save_answer, save_leaves}
-use Rattle.client_calls.specs.CallList.{Call, event, close, save, restore, answer, taken, wrote_by, next, Given, answers, trail, written, Fair, Undamaged, meant, plain_answers, started_by, FairList, FromC}
+use Rattle.client_calls.specs.CallList.{Call, event, close, save, restore, taken, wrote_by, next, Given, answers, trail, written, Fair, Undamaged, meant, plain_answers, started_by, FairList, FromC}
 use Rattle.client_calls.proofs.MaxRecordHolds.{room-saves}
 use Rattle.client_calls.proofs.Numbers.{ask-answer, ask-number, ask-few, ask-leaves, save-answer, save-number, save-front, restore-number, restore-front, start-loads, start-registers, start-front}
 

@@ -36,5 +36,5 @@ max-line = record {
   trail-fits = λ b lent h. fits b [] _ lent (λ z. omega (arith, (room b lent h z).trail));
   place-fits = λ b q lent h. fits b (place_tests b q) (place_line_at b q) lent (λ z. omega (arith, (room b lent h z).place q, first-le 52 (place_tests b q) (omega arith)));
   act-fits = λ b a lent h. fits b (act_tests b a) (act_line_at b a) lent (λ z. omega (arith, (room b lent h z).act a, first-le 52 (act_tests b a) (omega arith)));
-  jump_fits = λ b x y lent h. fits b (pair_tests b x y) (jump_line_at b x y) lent (λ z. omega (arith, (room b lent h z).jump x y, first-le 52 (pair_tests b x y) (omega arith)));
+  jump-fits = λ b x y lent h. fits b (pair_tests b x y) (jump_line_at b x y) lent (λ z. omega (arith, (room b lent h z).jump x y, first-le 52 (pair_tests b x y) (omega arith)));
 }

@@ -94,7 +94,7 @@ max-record = record {
   start-le = start-le;
   trail-le = restored-le;
   starts = λ table objects room z f r h. start-number table objects room ∙ begin-taken table objects room z f r h;
-  start_fits = λ table objects room h e. begin-fits table objects room h (sym (start-number table objects room) ∙ e);
+  start-fits = λ table objects room h e. begin-fits table objects room h (sym (start-number table objects room) ∙ e);
   save-fits = saves-fit;
   restore-fits = λ r room h e. take-fits r room h (sym (restore-number r room) ∙ e);
 }

@@ -11,4 +11,4 @@ pub record MaxLine : Type 0 where
   pub trail-fits : (b lent : List ℕ) → max_line ≤ length lent → number (write_answer b [] (trail_line_at b) lent) ≡ 61 → ⊥
   pub place-fits : (b : List ℕ) (q : ℕ) (lent : List ℕ) → max_line ≤ length lent → number (write_answer b (place_tests b q) (place_line_at b q) lent) ≡ 61 → ⊥
   pub act-fits : (b : List ℕ) (a : ℕ) (lent : List ℕ) → max_line ≤ length lent → number (write_answer b (act_tests b a) (act_line_at b a) lent) ≡ 61 → ⊥
-  pub jump_fits : (b : List ℕ) (x y : ℕ) (lent : List ℕ) → max_line ≤ length lent → number (write_answer b (pair_tests b x y) (jump_line_at b x y) lent) ≡ 61 → ⊥
+  pub jump-fits : (b : List ℕ) (x y : ℕ) (lent : List ℕ) → max_line ≤ length lent → number (write_answer b (pair_tests b x y) (jump_line_at b x y) lent) ≡ 61 → ⊥

@@ -17,6 +17,6 @@ pub record MaxRecord : Type 0 where
   pub starts : (table objects : List ℕ) (room : ℕ) → load_code table ≡ 0 → whole_rows (net_of table) objects ≡ true → register_code (net_of table) (kinds_in (net_of table) objects) ≡ 0 → max_record ≤ room
       → number (start_answer table objects room) ≡ 0
   -- and 61 is not the answer where as many bytes are lent
-  pub start_fits : (table objects : List ℕ) (room : ℕ) → max_record ≤ room → number (start_answer table objects room) ≡ 61 → ⊥
+  pub start-fits : (table objects : List ℕ) (room : ℕ) → max_record ≤ room → number (start_answer table objects room) ≡ 61 → ⊥
   pub save-fits : (b : List ℕ) (room : ℕ) → max_record ≤ room → number (save_answer b room) ≡ 61 → ⊥
   pub restore-fits : (r : List ℕ) (room : ℕ) → max_record ≤ room → number (restore_answer r room) ≡ 61 → ⊥

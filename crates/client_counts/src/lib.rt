@@ -1,6 +1,8 @@
 // The whole numbers of the lines, as four-byte numbers in lent bytes.
 // Above `replay_counts` and `report`, and beside `client_answers`.
 
+#![tactic(auto)]
+
 ghost use Rattle.std.specs.Prelude.{[], ◌∷◌};
 ghost use Rattle.words.specs.Words.{bytes_of};
 ghost use Rattle.replay.specs.Ready.{Ready};

@@ -1,6 +1,8 @@
 // Calls that check no trail: loading a table, starting a trail, taking up a record.
 // Above the loader, `replay_start` and the checkpoints; `client` exports a function for each.
 
+#![tactic(auto)]
+
 ghost use Rattle.std.specs.Prelude.{◌≡◌, length};
 ghost use Rattle.net.specs.Held.{Tabled};
 ghost use Rattle.replay_start.specs.Startable.{Startable};
@@ -45,7 +47,7 @@ fn begin(t: &NetWords, table: &[u8], objects: &[u8], trail: &mut [u8]) -> u64
 
 // Starting: 1 to 9 of the table, 11 and 12 of the objects' kinds, and 61; or the trail's record in front of the lent bytes.
 pub fn start(table: &[u8], objects: &[u8], trail: &mut [u8]) -> u64
-    ensures value { result ≡ start_answer table.now objects.now (length trail.old) }
+    ensures answer { result ≡ start_answer table.now objects.now (length trail.old) }
     ensures trail_after { trail.new ≡ start_leaves table.now objects.now trail.old }
 {
     let mut t = [0u32; NET_WORDS];
@@ -58,7 +60,7 @@ pub fn start(table: &[u8], objects: &[u8], trail: &mut [u8]) -> u64
 
 // Taking up a record: 41 to 47 and 61, or its bytes in front of the trail's.
 pub fn restore(saved: &[u8], trail: &mut [u8]) -> u64
-    ensures value { result ≡ restore_answer saved.now (length trail.old) }
+    ensures answer { result ≡ restore_answer saved.now (length trail.old) }
     ensures trail_after { trail.new ≡ take_bytes saved.now trail.old }
 {
     let r = checkpoint_restore::restore(saved, trail);

@@ -1,6 +1,8 @@
 // Calls on any bytes that are lent as a trail: an event, the close, a save. The trail is checked first, 41 to 47.
 // Above `client_check`, the replay's calls and the checkpoints; `client` exports a function for each.
 
+#![tactic(auto)]
+
 ghost use Rattle.std.specs.Prelude.{◌≡◌, ◌≤◌, length};
 ghost use Rattle.words.specs.Words.{words_of};
 ghost use Rattle.replay.specs.Plain.{ask_event};
@@ -40,7 +42,7 @@ fn put_event(trail: &mut [u8], t: &NetWords, activity: u32, objects: &[u8]) -> u
 
 // An event: 21 to 27, or carried out in the trail's bytes.
 pub fn event(trail: &mut [u8], activity: u32, objects: &[u8]) -> u64
-    ensures value { result ≡ ask_answer trail.old (ask_event activity (objects_in objects.now)) }
+    ensures answer { result ≡ ask_answer trail.old (ask_event activity (objects_in objects.now)) }
     ensures trail_after { trail.new ≡ ask_leaves trail.old (ask_event activity (objects_in objects.now)) }
 {
     let mut t = [0u32; NET_WORDS];
@@ -61,7 +63,7 @@ fn put_close(trail: &mut [u8], t: &NetWords) -> u64
 
 // The close: 31, or carried out in the trail's bytes.
 pub fn close(trail: &mut [u8]) -> u64
-    ensures value { result ≡ ask_answer trail.old ask_close }
+    ensures answer { result ≡ ask_answer trail.old ask_close }
     ensures trail_after { trail.new ≡ ask_leaves trail.old ask_close }
 {
     let mut t = [0u32; NET_WORDS];
@@ -86,7 +88,7 @@ fn put_save(trail: &[u8], lent: &mut [u8]) -> u64
 
 // The record of a trail: 61, or in front of the lent bytes.
 pub fn save(trail: &[u8], lent: &mut [u8]) -> u64
-    ensures value { result ≡ save_answer trail.now (length lent.old) }
+    ensures answer { result ≡ save_answer trail.now (length lent.old) }
     ensures lent_after { lent.new ≡ save_leaves trail.now lent.old }
 {
     let mut t = [0u32; NET_WORDS];

@@ -1,6 +1,8 @@
 // A line of the report of a lent trail, or the line's whole numbers, into lent bytes: the check of the trail, then 51, 52 and 61.
 // Above `client_check`, `report`, `client_counts` and `client_answers`; `client` exports a function for each line.
 
+#![tactic(auto)]
+
 ghost use Rattle.std.specs.Prelude.{◌≡◌};
 ghost use Rattle.replay.specs.Ready.{Ready};
 ghost use Rattle.lines.specs.Answer.{Writes};
@@ -49,7 +51,7 @@ fn put_numbers(trail: &[u8], t: &NetWords, which: Line, out: &mut [u8]) -> LineA
 
 // Writes a line of the report of any bytes that are lent as a trail.
 pub fn write_text(trail: &[u8], which: Line, out: &mut [u8]) -> u64
-    ensures value { result ≡ write_answer trail.now (line_tests trail.now which) (line_text trail.now which) out.old }
+    ensures answer { result ≡ write_answer trail.now (line_tests trail.now which) (line_text trail.now which) out.old }
     ensures out_after { out.new ≡ write_leaves trail.now (line_tests trail.now which) (line_text trail.now which) out.old }
 {
     let mut t = [0u32; NET_WORDS];
@@ -62,7 +64,7 @@ pub fn write_text(trail: &[u8], which: Line, out: &mut [u8]) -> u64
 
 // Writes the whole numbers of a line.
 pub fn write_numbers(trail: &[u8], which: Line, out: &mut [u8]) -> u64
-    ensures value { result ≡ write_answer trail.now (line_tests trail.now which) (line_numbers trail.now which) out.old }
+    ensures answer { result ≡ write_answer trail.now (line_tests trail.now which) (line_numbers trail.now which) out.old }
     ensures out_after { out.new ≡ write_leaves trail.now (line_tests trail.now which) (line_numbers trail.now which) out.old }
 {
     let mut t = [0u32; NET_WORDS];

@@ -1,0 +1,14 @@
+-- A refused trail stops the call; else the answer is the call's own. Assumes nothing.
+use Rattle.client_check.specs.Objects.{objects_in}
+use Rattle.client_trail.proofs.Checks.{ask-stops, ask-goes}
+use Rattle.replay.specs.Plain.{ask_event}
+use Rattle.client_trail.proofs.event.Goals as goal
+
+pub returns-then-refused-ne0 : goal.returns-then-refused-ne0
+returns-then-refused-ne0 c = let all = ask-stops c.args.trail.now _ _ c.checked-refused.ensures c.if-refused-ne0.true (ask_event c.args.activity (objects_in c.args.objects.now)) in record { answer = all.0; trail_after = all.1 }
+
+pub put_event-requires : goal.put_event-requires
+put_event-requires c = c.checked-refused.ensures.ready c.if-refused-ne0.false
+
+pub returns : goal.returns
+returns c = let all = ask-goes c.args.trail.now _ _ c.checked-refused.ensures c.if-refused-ne0.false (ask_event c.args.activity (objects_in c.args.objects.now)) _ _ c.put_event.ensures in record { answer = all.0; trail_after = all.1 }
