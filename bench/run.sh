@@ -8,9 +8,10 @@ set -eu
 cd "$(dirname "$0")/.."
 work=$(mktemp -d)
 trap 'rm -rf "$work"' EXIT
+tools/build
+(cd crates/bench && rt lib)
 for name in client bench; do
-    rt staticlib "$name"
-    objcopy -w --set-section-alignment '.text.*=64' "target/staticlib/lib$name.a" "$work/lib$name.a"
+    objcopy -w --set-section-alignment '.text.*=64' "crates/$name/out/lib$name.a" "$work/lib$name.a"
 done
 (cd "$work" && ar x libbench.a bench.o && objcopy --set-section-alignment .text.conform_bench_events=1 bench.o)
 for at in 0 8 16 24 32 40 48 56; do
@@ -21,8 +22,7 @@ for at in 0 8 16 24 32 40 48 56; do
 done
 rm "$work/libbench.a"
 ar rcs "$work/libbench.a" "$work"/placed_*.o
-rt check conform
 build() { rustc --edition 2021 -C opt-level=3 -C llvm-args=-align-all-functions=6 -D warnings "$@"; }
 build bench/conform.rs -o "$work/baseline_conform"
 build -L "$work" -l static=client -l static=bench bench/bench.rs -o "$work/bench"
-"$work/bench" target/bin/conform "$work/baseline_conform" "$@"
+"$work/bench" crates/conform/out/conform "$work/baseline_conform" "$@"
