@@ -1,8 +1,8 @@
 /* A marking client: starts a trail on table M, marks T4's events, puts the trail down half way and takes it up again,
  * closes it and prints the sheet. The output is examples/T4/sheet.
  *
- *     rt staticlib client
- *     gcc -std=c11 -O2 -Iinclude examples/client.c -Ltarget/staticlib -lclient -o client && ./client
+ *     tools/build
+ *     gcc -std=c11 -O2 -Iinclude examples/client.c -Lcrates/client/out -lclient -o client && ./client
  */
 #include "conform.h"
 #include <stdio.h>
