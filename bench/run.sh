@@ -9,11 +9,11 @@ cd "$(dirname "$0")/.."
 work=$(mktemp -d)
 trap 'rm -rf "$work"' EXIT
 tools/build
-(cd crates/bench && rt lib)
+(cd crates/bench_c && rt lib)
 for name in client bench; do
-    objcopy -w --set-section-alignment '.text.*=64' "crates/$name/out/lib$name.a" "$work/lib$name.a"
+    objcopy -w --set-section-alignment '.text.*=64' "crates/${name}_c/out/lib${name}_c.a" "$work/lib$name.a"
 done
-(cd "$work" && ar x libbench.a bench.o && objcopy --set-section-alignment .text.conform_bench_events=1 bench.o)
+(cd "$work" && ar x libbench.a bench_c.o && objcopy --set-section-alignment .text.conform_bench_events=1 bench_c.o bench.o)
 for at in 0 8 16 24 32 40 48 56; do
     echo "SECTIONS { .text.conform_bench_events_$at : ALIGN(64) { BYTE(0x90) . = $at; *(.text.conform_bench_events) } }" >"$work/script"
     [ "$at" -gt 0 ] || sed -i 's/BYTE(0x90) . = 0;//' "$work/script"
@@ -25,4 +25,4 @@ ar rcs "$work/libbench.a" "$work"/placed_*.o
 build() { rustc --edition 2021 -C opt-level=3 -C llvm-args=-align-all-functions=6 -D warnings "$@"; }
 build bench/conform.rs -o "$work/baseline_conform"
 build -L "$work" -l static=client -l static=bench bench/bench.rs -o "$work/bench"
-"$work/bench" crates/conform/out/conform "$work/baseline_conform" "$@"
+"$work/bench" target/bin/conform "$work/baseline_conform" "$@"

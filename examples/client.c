@@ -2,7 +2,7 @@
  * closes it and prints the sheet. The output is examples/T4/sheet.
  *
  *     tools/build
- *     gcc -std=c11 -O2 -Iinclude examples/client.c -Lcrates/client/out -lclient -o client && ./client
+ *     gcc -std=c11 -O2 -Iinclude examples/client.c -Ltarget/staticlib -lclient -o client && ./client
  */
 #include "conform.h"
 #include <stdio.h>

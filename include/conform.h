@@ -1,7 +1,7 @@
 /* conform.h: replaying exam trails from C. docs/FORMATS.md has the words used here, the files byte by byte with an example of
  * each, the sheet line by line, and all refusals in one table.
  *
- * Link with libclient.a (`tools/build` writes crates/client/out/libclient.a). Nothing else is needed: no call allocates
+ * Link with libclient.a (`tools/build` writes target/staticlib/libclient.a). Nothing else is needed: no call allocates
  * memory, keeps anything from one call to the next, reads a file or prints. Calls on different trails may run at the same time.
  *
  * WHAT IS LENT. A byte slice is a pointer and a length. Its bytes are lent for the time of the call. `const` slices are only

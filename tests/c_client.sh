@@ -6,8 +6,8 @@ cd "$(dirname "$0")/.."
 work=$(mktemp -d)
 trap 'rm -rf "$work"' EXIT
 # the gate builds the archive; after an edit, build it anew with tools/build
-[ -f crates/client/out/libclient.a ] || tools/build
-build() { gcc -std=c11 -O2 -Wall -Wextra -Werror -Iinclude "$1" -Lcrates/client/out -lclient -o "$2"; }
+[ -f target/staticlib/libclient.a ] || tools/build
+build() { gcc -std=c11 -O2 -Wall -Wextra -Werror -Iinclude "$1" -Ltarget/staticlib -lclient -o "$2"; }
 build examples/client.c "$work/client"
 "$work/client" >"$work/sheet"
 diff "$work/sheet" examples/T4/sheet

@@ -4,6 +4,6 @@ set -eu
 cd "$(dirname "$0")/.."
 work=$(mktemp -d)
 trap 'rm -rf "$work"' EXIT
-[ -x crates/conform/out/conform ] || tools/build
+[ -x target/bin/conform ] || tools/build
 rustc --edition 2021 -O -D warnings tests/conform.rs -o "$work/conform_test"
-"$work/conform_test" crates/conform/out/conform examples "$@"
+"$work/conform_test" target/bin/conform examples "$@"

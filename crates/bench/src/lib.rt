@@ -47,8 +47,7 @@ fn run_events(trail: &mut [u8], t: &NetWords, events: &[u8]) -> u64
 }
 
 // Takes up the trail and carries out the events: 41 to 47 with the second number of 43 and 44, or how many were accepted.
-#[unsafe(no_mangle)]
-pub extern "C" fn conform_bench_events(trail: &mut [u8], events: &[u8]) -> u64
+pub fn conform_bench_events(trail: &mut [u8], events: &[u8]) -> u64
     ensures answer { result ≡ events_answer trail.old events.now }
     ensures trail_after { trail.new ≡ events_leave trail.old events.now }
 {

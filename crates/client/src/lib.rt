@@ -1,6 +1,6 @@
 // The functions of the marking client, for C: numbers and byte slices, the trail held in lent bytes, which are its record.
-// Above all other libraries: each is one call of `client_start`, `client_trail` or `client_write`. Any bytes are taken or refused,
-// 41 to 47 before a call's own numbers and 61 last.
+// Above all other libraries but `client_c`, which exports them: each is one call of `client_start`, `client_trail` or
+// `client_write`. Any bytes are taken or refused, 41 to 47 before a call's own numbers and 61 last.
 
 #![tactic(auto)]
 
@@ -18,16 +18,14 @@ ghost use Rattle.client_counts.specs.Numbers.{trail_numbers, place_numbers, act_
 use client_write::{Line, write_numbers, write_text};
 
 // Loads a table, to see whether it is taken: 1 to 9.
-#[unsafe(no_mangle)]
-pub extern "C" fn conform_load(table: &[u8]) -> u64
+pub fn conform_load(table: &[u8]) -> u64
     ensures { result ≡ load_answer table.now }
 {
     client_start::load(table)
 }
 
 // Starts a trail: 1 to 9 of the table, 11 and 12 of the objects' kinds, and 61; or its record in front of the lent bytes.
-#[unsafe(no_mangle)]
-pub extern "C" fn conform_start(table: &[u8], objects: &[u8], trail: &mut [u8]) -> u64
+pub fn conform_start(table: &[u8], objects: &[u8], trail: &mut [u8]) -> u64
     ensures answer { result ≡ start_answer table.now objects.now (length trail.old) }
     ensures trail_after { trail.new ≡ start_leaves table.now objects.now trail.old }
 {
@@ -35,8 +33,7 @@ pub extern "C" fn conform_start(table: &[u8], objects: &[u8], trail: &mut [u8]) 
 }
 
 // An event on a trail: 21 to 27, or carried out in its bytes.
-#[unsafe(no_mangle)]
-pub extern "C" fn conform_event(trail: &mut [u8], activity: u32, objects: &[u8]) -> u64
+pub fn conform_event(trail: &mut [u8], activity: u32, objects: &[u8]) -> u64
     ensures answer { result ≡ ask_answer trail.old (ask_event activity (objects_in objects.now)) }
     ensures trail_after { trail.new ≡ ask_leaves trail.old (ask_event activity (objects_in objects.now)) }
 {
@@ -44,8 +41,7 @@ pub extern "C" fn conform_event(trail: &mut [u8], activity: u32, objects: &[u8])
 }
 
 // Closes a trail: 31, or carried out in its bytes.
-#[unsafe(no_mangle)]
-pub extern "C" fn conform_close(trail: &mut [u8]) -> u64
+pub fn conform_close(trail: &mut [u8]) -> u64
     ensures answer { result ≡ ask_answer trail.old ask_close }
     ensures trail_after { trail.new ≡ ask_leaves trail.old ask_close }
 {
@@ -53,8 +49,7 @@ pub extern "C" fn conform_close(trail: &mut [u8]) -> u64
 }
 
 // Takes up a record: 41 to 47 and 61, or its bytes in front of the trail's.
-#[unsafe(no_mangle)]
-pub extern "C" fn conform_restore(saved: &[u8], trail: &mut [u8]) -> u64
+pub fn conform_restore(saved: &[u8], trail: &mut [u8]) -> u64
     ensures answer { result ≡ restore_answer saved.now (length trail.old) }
     ensures trail_after { trail.new ≡ take_bytes saved.now trail.old }
 {
@@ -62,8 +57,7 @@ pub extern "C" fn conform_restore(saved: &[u8], trail: &mut [u8]) -> u64
 }
 
 // Puts down the record of a trail: 61, or in front of the lent bytes.
-#[unsafe(no_mangle)]
-pub extern "C" fn conform_save(trail: &[u8], lent: &mut [u8]) -> u64
+pub fn conform_save(trail: &[u8], lent: &mut [u8]) -> u64
     ensures answer { result ≡ save_answer trail.now (length lent.old) }
     ensures lent_after { lent.new ≡ save_leaves trail.now lent.old }
 {
@@ -71,8 +65,7 @@ pub extern "C" fn conform_save(trail: &[u8], lent: &mut [u8]) -> u64
 }
 
 // The line of the whole trail: 61, or the line in front of the lent bytes.
-#[unsafe(no_mangle)]
-pub extern "C" fn conform_trail_line(trail: &[u8], line: &mut [u8]) -> u64
+pub fn conform_trail_line(trail: &[u8], line: &mut [u8]) -> u64
     ensures answer { result ≡ write_answer trail.now [] (trail_line_at trail.now) line.old }
     ensures line_after { line.new ≡ write_leaves trail.now [] (trail_line_at trail.now) line.old }
 {
@@ -80,8 +73,7 @@ pub extern "C" fn conform_trail_line(trail: &[u8], line: &mut [u8]) -> u64
 }
 
 // The line of a place: 51, 61, or the line.
-#[unsafe(no_mangle)]
-pub extern "C" fn conform_place_line(trail: &[u8], place: u32, line: &mut [u8]) -> u64
+pub fn conform_place_line(trail: &[u8], place: u32, line: &mut [u8]) -> u64
     ensures answer { result ≡ write_answer trail.now (place_tests trail.now place) (place_line_at trail.now place) line.old }
     ensures line_after { line.new ≡ write_leaves trail.now (place_tests trail.now place) (place_line_at trail.now place) line.old }
 {
@@ -89,8 +81,7 @@ pub extern "C" fn conform_place_line(trail: &[u8], place: u32, line: &mut [u8]) 
 }
 
 // The line of an activity: 52, 61, or the line.
-#[unsafe(no_mangle)]
-pub extern "C" fn conform_act_line(trail: &[u8], activity: u32, line: &mut [u8]) -> u64
+pub fn conform_act_line(trail: &[u8], activity: u32, line: &mut [u8]) -> u64
     ensures answer { result ≡ write_answer trail.now (act_tests trail.now activity) (act_line_at trail.now activity) line.old }
     ensures line_after { line.new ≡ write_leaves trail.now (act_tests trail.now activity) (act_line_at trail.now activity) line.old }
 {
@@ -98,8 +89,7 @@ pub extern "C" fn conform_act_line(trail: &[u8], activity: u32, line: &mut [u8])
 }
 
 // The line of the jumps from one place to another: 51, 61, or the line, which is nothing where there are none.
-#[unsafe(no_mangle)]
-pub extern "C" fn conform_jump_line(trail: &[u8], from: u32, to: u32, line: &mut [u8]) -> u64
+pub fn conform_jump_line(trail: &[u8], from: u32, to: u32, line: &mut [u8]) -> u64
     ensures answer { result ≡ write_answer trail.now (pair_tests trail.now from to) (jump_line_at trail.now from to) line.old }
     ensures line_after { line.new ≡ write_leaves trail.now (pair_tests trail.now from to) (jump_line_at trail.now from to) line.old }
 {
@@ -107,8 +97,7 @@ pub extern "C" fn conform_jump_line(trail: &[u8], from: u32, to: u32, line: &mut
 }
 
 // The numbers of the trail's line: objects, events, jumps, transfers.
-#[unsafe(no_mangle)]
-pub extern "C" fn conform_trail_counts(trail: &[u8], counts: &mut [u8]) -> u64
+pub fn conform_trail_counts(trail: &[u8], counts: &mut [u8]) -> u64
     ensures answer { result ≡ write_answer trail.now [] (trail_numbers trail.now) counts.old }
     ensures counts_after { counts.new ≡ write_leaves trail.now [] (trail_numbers trail.now) counts.old }
 {
@@ -116,8 +105,7 @@ pub extern "C" fn conform_trail_counts(trail: &[u8], counts: &mut [u8]) -> u64
 }
 
 // The numbers of a place's line: its number, TAKEN, IN, OUT.
-#[unsafe(no_mangle)]
-pub extern "C" fn conform_place_counts(trail: &[u8], place: u32, counts: &mut [u8]) -> u64
+pub fn conform_place_counts(trail: &[u8], place: u32, counts: &mut [u8]) -> u64
     ensures answer { result ≡ write_answer trail.now (place_tests trail.now place) (place_numbers trail.now place) counts.old }
     ensures counts_after { counts.new ≡ write_leaves trail.now (place_tests trail.now place) (place_numbers trail.now place) counts.old }
 {
@@ -125,8 +113,7 @@ pub extern "C" fn conform_place_counts(trail: &[u8], place: u32, counts: &mut [u
 }
 
 // The numbers of an activity's line: its number, FIRED, MOVED, JUMPS.
-#[unsafe(no_mangle)]
-pub extern "C" fn conform_act_counts(trail: &[u8], activity: u32, counts: &mut [u8]) -> u64
+pub fn conform_act_counts(trail: &[u8], activity: u32, counts: &mut [u8]) -> u64
     ensures answer { result ≡ write_answer trail.now (act_tests trail.now activity) (act_numbers trail.now activity) counts.old }
     ensures counts_after { counts.new ≡ write_leaves trail.now (act_tests trail.now activity) (act_numbers trail.now activity) counts.old }
 {
@@ -134,8 +121,7 @@ pub extern "C" fn conform_act_counts(trail: &[u8], activity: u32, counts: &mut [
 }
 
 // The numbers of a pair's line: the two places and the jump count, also where that is 0.
-#[unsafe(no_mangle)]
-pub extern "C" fn conform_jump_count(trail: &[u8], from: u32, to: u32, counts: &mut [u8]) -> u64
+pub fn conform_jump_count(trail: &[u8], from: u32, to: u32, counts: &mut [u8]) -> u64
     ensures answer { result ≡ write_answer trail.now (pair_tests trail.now from to) (pair_numbers trail.now from to) counts.old }
     ensures counts_after { counts.new ≡ write_leaves trail.now (pair_tests trail.now from to) (pair_numbers trail.now from to) counts.old }
 {
