@@ -7,8 +7,8 @@ use native.Mathlib.Omega.{arith}
 use lib.ListN.{length, take, drop, length-take, length-drop}
 use lib.Dec.{eqb}
 use borrow.Author.Tests.{ltb-false, eqb-true, not-false}
+use Rattle.std.specs.Prelude.{None as Gap}
 use Rattle.words.specs.Lists.{pick, pair_up}
-use Rattle.words.specs.declared.Bodies.TheVariants.{Gap}
 use Rattle.words.specs.Words.{word, words_of, bodies_from, bodies_of, ends_at, body_of}
 use Rattle.words.proofs.Lists.{is_eq, clash}
 use Rattle.words.proofs.Words.{length-words}

@@ -74,3 +74,5 @@ module _ (w : List ℕ) (S : Sized w) where
     arc-at j h =
         pair-at (arcs_in w) j (omega (arith, arcs-length))
         ∙ ap₂ {C = Arc} (λ (a b : ℕ). (a, b)) (arc-word (2 * j) (omega arith)) (arc-word (2 * j + 1) (omega arith) ∙ ap (λ (i : ℕ). get_or w i 0) (omega arith))
+
+pub ruleset views = (kinds-is, places_is, source-at, sink-at, arc-at)

@@ -1,16 +1,20 @@
--- The paper's number for each answer of loading.
-use Rattle.std.specs.Prelude.{ℕ}
-use Rattle.net.specs.declared.LoadAnswer.{LoadAnswer}
-use Rattle.net.specs.declared.LoadAnswer.TheVariants.{Taken, Length, Layout, Size, PlaceKind, Ends, Arcs, ArcPlaces, TwoOfKind, Unreached}
+-- The paper's number for each refusal of loading, and for each answer.
+use Rattle.std.specs.Prelude.{ℕ, Result, Ok, Err}
+use Rattle.net.specs.declared.LoadError.{LoadError}
+use Rattle.net.specs.declared.LoadError.TheVariants.{Length, Layout, Size, PlaceKind, Ends, Arcs, ArcPlaces, TwoOfKind, Unreached}
 
-abbrev pub load_answer_code : LoadAnswer → ℕ
-load_answer_code Taken = 0
-load_answer_code Length = 1
-load_answer_code Layout = 2
-load_answer_code Size = 3
-load_answer_code PlaceKind = 4
-load_answer_code Ends = 5
-load_answer_code Arcs = 6
-load_answer_code ArcPlaces = 7
-load_answer_code TwoOfKind = 8
-load_answer_code Unreached = 9
+abbrev pub load_error_code : LoadError → ℕ
+load_error_code Length = 1
+load_error_code Layout = 2
+load_error_code Size = 3
+load_error_code PlaceKind = 4
+load_error_code Ends = 5
+load_error_code Arcs = 6
+load_error_code ArcPlaces = 7
+load_error_code TwoOfKind = 8
+load_error_code Unreached = 9
+
+-- 0 where the table is taken
+abbrev pub load_answer_code : Result Unit LoadError → ℕ
+load_answer_code (Ok u) = 0
+load_answer_code (Err e) = load_error_code e

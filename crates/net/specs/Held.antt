@@ -62,11 +62,15 @@ front_over b w =
 unfoldable pub after_load : List ℕ → List ℕ → List ℕ
 after_load b w = pick (eqb (load_code b) 0) (loaded_words b) w
 
--- the words are what loading some table leaves
-pub record Held (w : List ℕ) : Type 0 where
+-- a table that loads, and that left the words
+pub record LoadedFrom (w : List ℕ) : Type 0 where
   pub table : List ℕ
   pub taken : load_code table ≡ 0
   pub words : w ≡ loaded_words table
+
+-- the words are what loading some table leaves: there is such a table, and which one does not matter
+pub record Held (w : List ℕ) : Type 0 where
+  pub some : ∥ LoadedFrom w ∥₁
 
 -- the words hold the net of a table file that loads
 pub record Tabled (w table : List ℕ) : Type 0 where

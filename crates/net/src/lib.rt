@@ -4,8 +4,10 @@
 
 #![tactic(auto)]
 
+pub mod tested;
+
 ghost use Rattle.std.specs.Prelude.{◌≡◌};
-ghost use Rattle.net.specs.Answer.{load_answer_code};
+ghost use Rattle.net.specs.Answer.{load_error_code, load_answer_code};
 
 // Bytes of the longest route table.
 pub const MAX_TABLE: usize = 4704;
@@ -31,10 +33,9 @@ pub const OUTPUTS: usize = 149;
 
 pub const INDEX: usize = 1172;
 
-// The answer to loading a table. `load_answer_code` gives document 01's number.
+// Why a table is refused. `load_error_code` gives document 01's number.
 #[derive(Clone, Copy)]
-pub enum LoadAnswer {
-    Taken,
+pub enum LoadError {
     // 1: length under 32 or over 4,704.
     Length,
     // 2: a start or the end breaks the layout, or a length is no multiple of its row.
@@ -55,20 +56,31 @@ pub enum LoadAnswer {
     Unreached,
 }
 
-// The number of an answer.
-pub fn code(r: LoadAnswer) -> u32
+impl LoadError {
+    // The number of a refusal.
+    pub fn number(self) -> u32
+        ensures { result ≡ load_error_code self }
+    {
+        match self {
+            LoadError::Length => 1,
+            LoadError::Layout => 2,
+            LoadError::Size => 3,
+            LoadError::PlaceKind => 4,
+            LoadError::Ends => 5,
+            LoadError::Arcs => 6,
+            LoadError::ArcPlaces => 7,
+            LoadError::TwoOfKind => 8,
+            LoadError::Unreached => 9,
+        }
+    }
+}
+
+// The number of an answer: that of the refusal, or 0 where the table is taken.
+pub fn code(r: Result<(), LoadError>) -> u32
     ensures { result ≡ load_answer_code r }
 {
     match r {
-        LoadAnswer::Taken => 0,
-        LoadAnswer::Length => 1,
-        LoadAnswer::Layout => 2,
-        LoadAnswer::Size => 3,
-        LoadAnswer::PlaceKind => 4,
-        LoadAnswer::Ends => 5,
-        LoadAnswer::Arcs => 6,
-        LoadAnswer::ArcPlaces => 7,
-        LoadAnswer::TwoOfKind => 8,
-        LoadAnswer::Unreached => 9,
+        Ok(()) => 0,
+        Err(refused) => refused.number(),
     }
 }

@@ -6,74 +6,42 @@
 ghost use Rattle.std.specs.Prelude.{◌≡◌, ℕ, ◌≤◌, ◌<◌, length, get_or};
 ghost use Rattle.words.specs.Lists.{any, pair_up, total};
 ghost use Rattle.net.specs.Table.{bad_count, bad_arc};
-ghost use Rattle.net.specs.Held.{net_in, counts_in, arcs_in, Sized};
+ghost use Rattle.net.specs.Held.{net_in, counts_in, arcs_in};
 
-use net::{COUNTS, INPUTS, NetWords, OUTPUTS, PLACES};
+use net::tested::SizedWords;
 use words::wide;
 
 // 6: an activity with no arcs or over 8.
-pub fn bad_counts(w: &NetWords) -> bool
-    requires { Sized w.now }
-    ensures { result ≡ any bad_count (counts_in w.now) }
+pub fn bad_counts(w: SizedWords) -> bool
+    ensures { result ≡ any bad_count (counts_in w.entry.words.now) }
 {
-    let n = wide(w[2]);
-    let mut i = 0;
-    while i < n {
-        if w[COUNTS + i] == 0 {
-            return true;
-        }
-        if 8 < w[COUNTS + i] {
-            return true;
-        }
-        i += 1;
-    }
-    false
+    w.counts().iter().any(|n| *n == 0 || 8 < *n)
 }
 
 // 6: how many arcs the activities claim, none of them over 8.
-pub fn sum_counts(w: &NetWords) -> usize
-    requires sized { Sized w.now }
-    requires by_index { (i : ℕ) → i < length (counts_in w.now) → get_or (counts_in w.now) i 0 ≤ 8 }
-    ensures { result ≡ total (λ (n : ℕ). n) (counts_in w.now) }
+pub fn sum_counts(w: SizedWords) -> usize
+    requires by_index { (i : ℕ) → i < length (counts_in w.words.now) → get_or (counts_in w.words.now) i 0 ≤ 8 }
+    ensures { result ≡ total (λ (n : ℕ). n) (counts_in w.entry.words.now) }
 {
-    let n = wide(w[2]);
-    let mut sum = 0;
-    let mut i = 0;
-    while i < n {
-        sum += wide(w[COUNTS + i]);
-        i += 1;
-    }
-    sum
+    w.counts().iter().map(|n| wide(*n)).sum()
 }
 
 // The arc from place p to place q breaks test 7.
-fn bad_arc(w: &NetWords, p: usize, q: usize) -> bool
-    requires { Sized w.now }
-    ensures { result ≡ bad_arc (net_in w.now) (p, q) }
+#[tactic(auto, using(std::proofs::lemmas::Bool::Decides::nat_tests), unfolding(net::specs::Held::net_in))]
+fn bad_arc(w: SizedWords, p: usize, q: usize) -> bool
+    ensures { result ≡ bad_arc (net_in w.entry.words.now) (p, q) }
 {
-    let n = wide(w[1]);
-    if n <= p {
-        return true;
-    }
-    if n <= q {
-        return true;
-    }
-    w[PLACES + p] != w[PLACES + q]
+    let kinds = w.places();
+    kinds.len() <= p || kinds.len() <= q || kinds[p] != kinds[q]
 }
 
 // 7: an arc with an unknown place, or with places of two kinds.
-pub fn bad_arcs(w: &NetWords) -> bool
-    requires sized { Sized w.now }
-    requires bounded { get_or w.now 3 0 ≤ 512 }
-    ensures { result ≡ any (bad_arc (net_in w.now)) (pair_up (arcs_in w.now)) }
+pub fn bad_arcs(w: SizedWords) -> bool
+    requires bounded { get_or w.words.now 3 0 ≤ 512 }
+    ensures { result ≡ any (bad_arc (net_in w.entry.words.now)) (pair_up (arcs_in w.entry.words.now)) }
 {
-    let n = wide(w[3]);
-    let mut i = 0;
-    while i < n {
-        if bad_arc(w, wide(w[INPUTS + 2 * i]), wide(w[OUTPUTS + 2 * i])) {
-            return true;
-        }
-        i += 1;
-    }
-    false
+    (0..w.arcs()).any(|j| {
+        let (p, q) = w.arc(j);
+        bad_arc(w, p, q)
+    })
 }

@@ -4,15 +4,18 @@ use Prim.Native.Nat.{ℕ, ◌+◌, ◌*◌, ◌≤◌, ◌<◌}
 use native.Mathlib.Numerals.{add-one}
 use native.Mathlib.Omega.{arith}
 use mathlib.Core.Logic.{inl}
-use mathlib.Core.Path.{◌≡◌, refl, ap, ◌∙◌}
+use mathlib.Core.Path.{◌≡◌, refl, ap, sym, ◌∙◌}
 use mathlib.Core.List.{List, [], ◌∷◌}
 use lib.ListN.{length, get_or, set, take, drop, length-set, drop_of_length-le}
 use lib.Seq.{drop-cons, drop-drop, get_or-set_other}
-use Rattle.words.specs.Lists.{parts}
+use Rattle.words.specs.Lists.{pair_up, parts, total}
+use Rattle.words.proofs.Scan.{total-turn}
 use Rattle.words.proofs.Sets.{view-set}
 use Rattle.net.specs.Net.{Arc}
-use Rattle.net.specs.Held.{ends_in, places_in, counts_in, arcs_in, net_in, pack, index_row, index_rows}
+use Rattle.net.specs.Held.{ends_in, places_in, counts_in, arcs_in, net_in, pack, index_row, index_rows, Sized}
 use Rattle.net.specs.Ruled.{Ruled}
+use Rattle.net.proofs.Views.{counts-length, count_at}
+use Rattle.net_routes.proofs.RuledWords.{kind-small, inp-known, inp-small, out-small}
 use Rattle.net.proofs.IndexLaws.{rows-length, rows-view, rows_before}
 
 module _ (kind_of : ℕ → ℕ) (base : ℕ) (row : List Arc) (i : ℕ) (t : List ℕ) where
@@ -89,3 +92,34 @@ module _ (v w : List ℕ) (S : Same v w) (R : Ruled w) where
         arcs-few = omega (arith, S.word 3 (omega arith), R.arcs-few);
         arcs = rw (same-net, same-arcs) R.arcs;
       }
+
+  -- what the code reads of them
+  pub same-sized : Sized v
+  same-sized = same-ruled.sized
+
+  pub same-few : (get_or v 3 0 ≡ get_or w 3 0) × (get_or v 3 0 ≤ 512)
+  same-few = (S.word 3 (omega arith), same-ruled.arcs-few)
+
+  pub same-kind : (p : ℕ) → get_or (places_in v) p 0 ≡ (net_in w).kind_of p
+  unfolding net_in
+  same-kind p = ap (λ (ps : List ℕ). get_or ps p 0) same-places
+
+  pub same-kind-small : (p : ℕ) → p < length (places_in v) → get_or (places_in v) p 0 < 8
+  same-kind-small = kind-small v same-ruled
+
+  pub same-inp-known : (j : ℕ) → j < get_or w 3 0 → (get_or (pair_up (arcs_in v)) j (0, 0)).0 < length (places_in v)
+  same-inp-known j h = inp-known v same-ruled j (omega (arith, same-few))
+
+  pub same-inp-small : (j : ℕ) → j < get_or w 3 0 → (get_or (pair_up (arcs_in v)) j (0, 0)).0 < 64
+  same-inp-small j h = inp-small v same-ruled j (omega (arith, same-few))
+
+  pub same-out-small : (j : ℕ) → j < get_or w 3 0 → (get_or (pair_up (arcs_in v)) j (0, 0)).1 < 64
+  same-out-small j h = out-small v same-ruled j (omega (arith, same-few))
+
+  pub same-count : (a : ℕ) → a < get_or w 2 0 → get_or v (84 + a) 0 ≡ get_or (counts_in w) a 0
+  same-count a h = S.word (84 + a) (omega (arith, h, R.sized.acts)) ∙ sym (count_at w R.sized a h)
+
+  pub rows-left : (a : ℕ) → a < get_or w 2 0 → get_or (counts_in w) a 0 + total (λ (n : ℕ). n) (drop (a + 1) (counts_in w)) ≡ total (λ (n : ℕ). n) (drop a (counts_in w))
+  rows-left a h = total-turn (λ (n : ℕ). n) (counts_in w) 0 a (omega (arith, h, counts-length w R.sized))
+
+pub ruleset indexed = (same-ruled, same-sized, same-few, same-kind-small, same-inp-known, same-inp-small, same-out-small)

@@ -6,62 +6,38 @@
 ghost use Rattle.std.specs.Prelude.{◌≡◌, ℕ, ◌<◌, leb};
 ghost use Rattle.words.specs.Lists.{any, any_to};
 ghost use Rattle.net.specs.Table.{bad_ends};
-ghost use Rattle.net.specs.Held.{net_in, places_in, Sized};
+ghost use Rattle.net.specs.Held.{net_in, places_in};
 
-use net::{NetWords, PLACES, SINKS, SOURCES};
+use net::tested::SizedWords;
 use words::wide;
 
 // 4: a place of unknown kind.
-pub fn bad_place(w: &NetWords) -> bool
-    requires { Sized w.now }
-    ensures { result ≡ any (λ (k : ℕ). leb (net_in w.now).kinds k) (places_in w.now) }
+pub fn bad_place(w: SizedWords) -> bool
+    ensures { result ≡ any (λ (k : ℕ). leb (net_in w.entry.words.now).kinds k) (places_in w.entry.words.now) }
 {
-    let kinds = w[0];
-    let n = wide(w[1]);
-    let mut i = 0;
-    while i < n {
-        if kinds <= w[PLACES + i] {
-            return true;
-        }
-        i += 1;
-    }
-    false
+    let kinds = w.kinds();
+    w.places().iter().any(|kind| kinds <= wide(*kind))
 }
 
-// The source and sink of kind k, places s and e, break test 5.
-fn bad_pair(w: &NetWords, k: usize, s: usize, e: usize) -> bool
-    requires sized { Sized w.now }
-    requires known_kind { (k < (net_in w.now).kinds) × (s ≡ (net_in w.now).source k) × (e ≡ (net_in w.now).sink k) }
-    ensures { result ≡ bad_ends (net_in w.now) k }
+// The source and the sink of kind k break test 5.
+#[tactic(auto, using(std::proofs::lemmas::Bool::Decides::nat_tests), unfolding(net::specs::Held::net_in))]
+fn bad_pair(w: SizedWords, k: usize) -> bool
+    requires { k < (net_in w.words.now).kinds }
+    ensures { result ≡ bad_ends (net_in w.entry.words.now) k }
 {
-    let n = wide(w[1]);
-    if n <= s {
-        return true;
-    }
-    if n <= e {
-        return true;
-    }
-    if wide(w[PLACES + s]) != k {
-        return true;
-    }
-    if wide(w[PLACES + e]) != k {
-        return true;
-    }
-    s == e
+    let kinds = w.places();
+    let source = w.source(k);
+    let sink = w.sink(k);
+    kinds.len() <= source
+        || kinds.len() <= sink
+        || wide(kinds[source]) != k
+        || wide(kinds[sink]) != k
+        || source == sink
 }
 
 // 5: a kind whose source or sink is unknown, of another kind, or the same place.
-pub fn bad_ends(w: &NetWords) -> bool
-    requires { Sized w.now }
-    ensures { result ≡ any_to (net_in w.now).kinds (bad_ends (net_in w.now)) }
+pub fn bad_ends(w: SizedWords) -> bool
+    ensures { result ≡ any_to (net_in w.entry.words.now).kinds (bad_ends (net_in w.entry.words.now)) }
 {
-    let n = wide(w[0]);
-    let mut k = 0;
-    while k < n {
-        if bad_pair(w, k, wide(w[SOURCES + 2 * k]), wide(w[SINKS + 2 * k])) {
-            return true;
-        }
-        k += 1;
-    }
-    false
+    (0..w.kinds()).any(|k| bad_pair(w, k))
 }

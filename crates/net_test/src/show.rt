@@ -1,117 +1,96 @@
 // What loading answers, and what becomes of the lent words.
 
 ghost use Rattle.std.specs.Prelude.{◌<◌};
-ghost use Rattle.net.specs.Held.{Held, net_in};
+ghost use Rattle.net.specs.Held.{net_in};
 
 use net::{NET_WORDS, NetWords};
+use net_lookup::LoadedNet;
 use std::io::Write;
 
 // What the words hold before a table is loaded.
 const MARK: u32 = 3000000007;
 
-pub fn put_byte<W: Write>(out: &mut W, c: u8) {
-    let one = [c];
-    let _ = out.write_all(&one);
+fn put_byte<W: Write>(out: &mut W, c: u8) {
+    let _ = out.write_all(&[c]);
 }
 
 fn say<W: Write>(out: &mut W, x: usize) {
-    put_byte(out, b' ');
-    let _ = write!(out, "{x}");
+    let _ = write!(out, " {x}");
 }
 
 // How many words, from the first on, are as they were.
 fn unchanged(t: &NetWords) -> usize {
-    let mut i = 0;
-    while i < NET_WORDS {
-        if t[i] != MARK {
-            return i;
-        }
-        i += 1;
-    }
-    i
+    t.iter().position(|word| *word != MARK).unwrap_or(NET_WORDS)
 }
 
 // Source and sink of each kind.
-fn put_kinds<W: Write>(out: &mut W, t: &NetWords)
-    requires { Held t.now }
-{
+fn put_kinds<W: Write>(out: &mut W, net: &LoadedNet) {
     put_byte(out, b';');
-    let mut k = 0;
-    while k < net_lookup::kinds(t) {
-        say(out, net_lookup::source(t, k));
-        say(out, net_lookup::sink(t, k));
-        k += 1;
+    for k in 0..net.kinds() {
+        say(out, net.source(k));
+        say(out, net.sink(k));
     }
 }
 
 // The kind of each place.
-fn put_places<W: Write>(out: &mut W, t: &NetWords)
-    requires { Held t.now }
-{
+fn put_places<W: Write>(out: &mut W, net: &LoadedNet) {
     put_byte(out, b';');
-    let mut p = 0;
-    while p < net_lookup::places(t) {
-        say(out, net_lookup::kind_of(t, p));
-        p += 1;
+    for p in 0..net.places() {
+        say(out, net.kind_of(p));
     }
 }
 
 // The arc of kind k, where activity a has one.
-fn put_arc<W: Write>(out: &mut W, t: &NetWords, a: usize, k: usize)
-    requires held { Held t.now }
-    requires known_act { (a < (net_in t.now).acts) × (k < (net_in t.now).kinds) }
+fn put_arc<W: Write>(out: &mut W, net: &LoadedNet, a: usize, k: usize)
+    requires known_act { (a < (net_in net.now.words.now).acts) × (k < (net_in net.now.words.now).kinds) }
 {
-    if net_lookup::takes_kind(t, a, k) {
+    if net.takes_kind(a, k) {
         say(out, k);
-        say(out, net_lookup::input(t, a, k));
-        say(out, net_lookup::output(t, a, k));
+        say(out, net.input(a, k));
+        say(out, net.output(a, k));
     }
 }
 
 // How many arcs activity a has, and each.
-fn put_act<W: Write>(out: &mut W, t: &NetWords, a: usize)
-    requires held { Held t.now }
-    requires known_act { a < (net_in t.now).acts }
+fn put_act<W: Write>(out: &mut W, net: &LoadedNet, a: usize)
+    requires known_act { a < (net_in net.now.words.now).acts }
 {
     put_byte(out, b';');
-    say(out, net_lookup::arcs(t, a));
-    let mut k = 0;
-    while k < net_lookup::kinds(t) {
-        put_arc(out, t, a, k);
-        k += 1;
+    say(out, net.arcs(a));
+    for k in 0..net.kinds() {
+        put_arc(out, net, a, k);
     }
 }
 
-fn put_acts<W: Write>(out: &mut W, t: &NetWords)
-    requires { Held t.now }
-{
-    let mut a = 0;
-    while a < net_lookup::acts(t) {
-        put_act(out, t, a);
-        a += 1;
+fn put_acts<W: Write>(out: &mut W, net: &LoadedNet) {
+    for a in 0..net.acts() {
+        put_act(out, net, a);
     }
 }
 
 // The net that the words hold: its sizes, and each kind, place and activity.
-fn put_net<W: Write>(out: &mut W, t: &NetWords)
-    requires { Held t.now }
-{
-    say(out, net_lookup::kinds(t));
-    say(out, net_lookup::places(t));
-    say(out, net_lookup::acts(t));
-    put_kinds(out, t);
-    put_places(out, t);
-    put_acts(out, t);
+fn put_net<W: Write>(out: &mut W, net: &LoadedNet) {
+    say(out, net.kinds());
+    say(out, net.places());
+    say(out, net.acts());
+    put_kinds(out, net);
+    put_places(out, net);
+    put_acts(out, net);
 }
 
-// Loads the table s, and writes the answer's number and what the words hold then.
+// Loads the table s, and writes the answer's number and what the words hold then, to the end of the line.
 pub fn load<W: Write>(out: &mut W, s: &[u8]) {
     let mut t = [MARK; NET_WORDS];
-    let n = net::code(net_loader::load(s, &mut t));
-    say(out, n as usize);
-    if n == 0 {
-        put_net(out, &t);
-    } else {
-        say(out, unchanged(&t));
+    match net_loader::load(s, &mut t) {
+        Ok(()) => {
+            say(out, 0);
+            let net = LoadedNet { words: &t };
+            put_net(out, &net);
+        }
+        Err(refused) => {
+            say(out, refused.number() as usize);
+            say(out, unchanged(&t));
+        }
     }
+    put_byte(out, b'\n');
 }

@@ -1,28 +1,22 @@
 -- Laws of `word`, `words_of`, `bytes_of` and `Put`. Assumes nothing.
 use Prim.Native.Nat.{ℕ, zero, suc, ◌+◌, ◌-◌, ◌*◌, ◌/◌, ◌%◌, ◌≤◌, ◌<◌, ◌^◌}
 use native.Mathlib.Omega.{arith}
-use native.Mathlib.Nat.{div-div-eq-div-mul, mod-eq_of_lt, div-add-mod', le_of_suc-le-suc, not-suc-le-zero, add-zero}
-use mathlib.Core.Path.{◌≡◌, refl, sym, ap, ap₂, subst, ◌∙◌}
-use mathlib.Core.List.{List, [], ◌∷◌, ◌++◌, append-nil}
+use native.Mathlib.Nat.{le_of_suc-le-suc, not-suc-le-zero, add-zero}
+use mathlib.Core.Path.{◌≡◌, refl, sym, ap, ap₂, ◌∙◌}
+use mathlib.Core.List.{List, [], ◌∷◌, ◌++◌, append-nil, append_assoc}
 use lib.ListN.{length, get_or, set, take, drop, length-drop}
-use lib.Seq.{sets, drop-drop, get_or-drop, get_or-set_same, get_or-set_other}
-use Rattle.words.specs.Lists.{pick, All}
-use Rattle.words.proofs.Lists.{clash}
-use mathlib.Core.Bool.{true}
-use native.Mathlib.Decide.{ℕ_discrete}
-use lib.Dec.{eqb}
-use borrow.Author.Tests.{eqb-true, eq-eqb, ne_eqb}
-use Rattle.words.specs.declared.Bodies.TheVariants.{Gap, End}
-use Rattle.words.specs.Words.{joined, word, words_at, words_of, bytes_of, bodies_from, ends_at}
+use lib.Seq.{sets, sets-eq, drop-drop, get_or-drop, get_or-set_same, get_or-set_other}
+use Rattle.words.specs.Lists.{All}
+use borrow.Author.Tests.{eq-eqb, ne_eqb}
+use borrow.Rule.Slice.PartMut.{put_mid}
+use Rattle.std.specs.Prelude.{Some, None}
+use Rattle.std.proofs.lemmas.Nat.{from_le_bytes-to_le_bytes_4}
+use Rattle.words.specs.Words.{joined, word, words_at, words_of, bytes_of, bodies_from}
 use Rattle.words.specs.Put.{Put}
 
 -- a number below 2 ^ 32 by its four digits to the base 256
 pub digits : (x : ℕ) → x < 2 ^ 32 → joined (x % 256) (x / 256 % 256) (x / 65536 % 256) (x / 16777216 % 256) ≡ x
-digits x f =
-    let e2 : x / 256 / 256 ≡ x / 65536 = div-div-eq-div-mul x 256 256 in
-    let e3 : x / 65536 / 256 ≡ x / 16777216 = div-div-eq-div-mul x 65536 256 in
-    let m : x / 16777216 % 256 ≡ x / 16777216 = mod-eq_of_lt (omega arith) in
-    omega (arith, div-add-mod' x 256, div-add-mod' (x / 256) 256, div-add-mod' (x / 65536) 256)
+digits x f = omega (arith, from_le_bytes-to_le_bytes_4 x f)
 
 -- a word's bytes are there
 pub room : (s : List ℕ) (i : ℕ) → i < length (words_of s) → 4 * i + 4 ≤ length s
@@ -51,6 +45,13 @@ words-get (a ∷ (b ∷ [])) i h = absurd (not-suc-le-zero h)
 words-get (a ∷ (b ∷ (c ∷ []))) i h = absurd (not-suc-le-zero h)
 words-get (a ∷ (b ∷ (c ∷ (d ∷ r)))) zero h = refl
 words-get (a ∷ (b ∷ (c ∷ (d ∷ r)))) (suc i) h = skip-word a b c d r (4 * suc i) (4 * i) (omega arith) ∙ words-get r i (le_of_suc-le-suc h)
+
+-- a part of four bytes, written as a whole
+pub put_part : (s part bs : List ℕ) (p : ℕ) → part ≡ bs → length bs ≡ 4 → p + 4 ≤ length s → put_mid p (p + 4 - p) s part ≡ sets s p bs
+put_part s part bs p e l h =
+    let four : p + 4 - p ≡ 4 = omega arith in
+    let behind : p + length bs ≡ p + 4 = omega (arith, l) in
+    rw (e, four, drop-drop 4 p s) (sym (sets-eq bs s p (omega (arith, l, h)) ∙ ap (λ (n : ℕ). take p s ++ bs ++ drop n s) behind ∙ append_assoc (take p s) bs (drop (p + 4) s)))
 
 -- the bytes of x stored from byte p on
 abbrev pub put : List ℕ → ℕ → ℕ → List ℕ
@@ -189,29 +190,10 @@ module _ (s : List ℕ) (n i end : ℕ) where
   unfolding bodies_from
   bodies-more h e = rw (left-suc h, eq-eqb (word s (8 * i)) end e) (ap (λ (k : ℕ). bodies_from s k (end + word s (8 * i + 4)) (n - (i + 1))) (omega arith))
 
-  pub bodies-gap : i < n → (word s (8 * i) ≡ end → ⊥) → Gap ≡ bodies_from s (8 * i) end (n - i)
+  pub bodies-gap : i < n → (word s (8 * i) ≡ end → ⊥) → None ≡ bodies_from s (8 * i) end (n - i)
   unfolding bodies_from
   bodies-gap h e = rw (left-suc h, ne_eqb (word s (8 * i)) end e)
 
-  pub bodies-end : n ≤ i → End end ≡ bodies_from s (8 * i) end (n - i)
+  pub bodies-end : n ≤ i → Some end ≡ bodies_from s (8 * i) end (n - i)
   unfolding bodies_from
   bodies-end h = let z : n - i ≡ 0 = omega arith in rw z
-
--- where the layout test holds, no body passes the file's end
-pub body-within : (b : List ℕ) (e n i at : ℕ) → ends_at e (bodies_from b i at n) ≡ true → (at ≤ e) × ((j : ℕ) → j < n → word b (i + 8 * j) + word b (i + 8 * j + 4) ≤ e)
-unfolding bodies_from
-body-within b e zero i at h = (omega (arith, eqb-true at e h), λ j l. absurd (omega arith))
-body-within b e (suc n) i at h = go (ℕ_discrete (word b i) at) (body-within b e n (i + 8) (at + word b (i + 4))) h
-  where
-    go : Dec (word b i ≡ at)
-        → (ends_at e (bodies_from b (i + 8) (at + word b (i + 4)) n) ≡ true → (at + word b (i + 4) ≤ e) × ((j : ℕ) → j < n → word b (i + 8 + 8 * j) + word b (i + 8 + 8 * j + 4) ≤ e))
-        → ends_at e (pick (eqb (word b i) at) (bodies_from b (i + 8) (at + word b (i + 4)) n) Gap) ≡ true
-        → (at ≤ e) × ((j : ℕ) → j < suc n → word b (i + 8 * j) + word b (i + 8 * j + 4) ≤ e)
-    go (no m) r h = clash (sym (rw (ne_eqb (word b i) at m) at h))
-    go (yes q) r h =
-        let s = r (rw (eq-eqb (word b i) at q) at h) in
-        (omega (arith, s.0), λ j l. each j l s.0 s.1)
-      where
-        each : (j : ℕ) → j < suc n → at + word b (i + 4) ≤ e → ((j : ℕ) → j < n → word b (i + 8 + 8 * j) + word b (i + 8 + 8 * j + 4) ≤ e) → word b (i + 8 * j) + word b (i + 8 * j + 4) ≤ e
-        each zero l f g = subst (λ (k : ℕ). word b k + word b (k + 4) ≤ e) (sym (add-zero i)) (omega (arith, f, q))
-        each (suc j) l f g = subst (λ (k : ℕ). word b k + word b (k + 4) ≤ e) {x = i + 8 + 8 * j} (omega arith) (g j (omega arith))

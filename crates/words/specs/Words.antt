@@ -1,9 +1,7 @@
 -- Numbers in files: four bytes each, least significant first (document 01 "The route table file"),
 -- and the layout that table, record and trail file share: contents pairs, then bodies without gaps.
-use Rattle.std.specs.Prelude.{ℕ, zero, suc, ◌+◌, ◌*◌, ◌/◌, ◌%◌, Bool, false, List, [], ◌∷◌, get_or, take, drop, eqb}
+use Rattle.std.specs.Prelude.{ℕ, zero, suc, ◌+◌, ◌*◌, ◌/◌, ◌%◌, Bool, false, List, [], ◌∷◌, get_or, take, drop, eqb, Option, Some, None}
 use Rattle.words.specs.Lists.{pick}
-use Rattle.words.specs.declared.Bodies.{Bodies}
-use Rattle.words.specs.declared.Bodies.TheVariants.{Gap, End}
 
 -- the number that four bytes hold
 abbrev pub joined : ℕ → ℕ → ℕ → ℕ → ℕ
@@ -32,19 +30,19 @@ bytes_of [] = []
 bytes_of (w ∷ ws) = w % 256 ∷ (w / 256 % 256 ∷ (w / 65536 % 256 ∷ (w / 16777216 % 256 ∷ bytes_of ws)))
 
 -- Contents: pairs (start, length), the first at byte i. The n bodies follow one another from byte `at` on:
--- where the last one ends, or `Gap` where one starts elsewhere than where the one before ends.
-unfoldable pub bodies_from : List ℕ → ℕ → ℕ → ℕ → Bodies
-bodies_from b i at zero = End at
-bodies_from b i at (suc n) = pick (eqb (word b i) at) (bodies_from b (i + 8) (at + word b (i + 4)) n) Gap
+-- where the last one ends, or `None` where one starts elsewhere than where the one before ends.
+unfoldable pub bodies_from : List ℕ → ℕ → ℕ → ℕ → Option ℕ
+bodies_from b i at zero = Some at
+bodies_from b i at (suc n) = pick (eqb (word b i) at) (bodies_from b (i + 8) (at + word b (i + 4)) n) None
 
 -- the n bodies of a file that begins with their contents
-unfoldable pub bodies_of : ℕ → List ℕ → Bodies
+unfoldable pub bodies_of : ℕ → List ℕ → Option ℕ
 bodies_of n b = bodies_from b 0 (8 * n) n
 
 -- the bodies have no gap and end at byte e
-abbrev pub ends_at : ℕ → Bodies → Bool
-ends_at e Gap = false
-ends_at e (End at) = eqb at e
+abbrev pub ends_at : ℕ → Option ℕ → Bool
+ends_at e None = false
+ends_at e (Some at) = eqb at e
 
 -- the numbers of body i, for bodies of whole numbers
 unfoldable pub body_of : List ℕ → ℕ → List ℕ

@@ -7,34 +7,20 @@ ghost use Rattle.std.specs.Prelude.{◌≡◌, ◌+◌, ◌*◌, ◌<◌, ◌≤
 ghost use Rattle.words.specs.Words.{word, words_of, bodies_of, ends_at};
 ghost use Rattle.words.specs.Put.{Put};
 
-// What the contents of a file say of its bodies.
-#[derive(Drop)]
-pub enum Bodies {
-    // One starts elsewhere than where the one before it ends.
-    Gap,
-    // They follow one another, and the last one ends at this byte.
-    End(u64),
-}
-
-// The same number as an index.
+// The same number as an index; no `From` goes from u32 to usize.
 pub fn wide(x: u32) -> usize
     ensures { result ≡ x }
 {
     x as usize
 }
 
-fn joined(a: u8, b: u8, c: u8, d: u8) -> u32
-    ensures { result ≡ a + 256 * b + 65536 * c + 16777216 * d }
-{
-    (a as u32) + 256 * (b as u32) + 65536 * (c as u32) + 16777216 * (d as u32)
-}
-
 // The number whose first byte is byte `at`.
+#[tactic(auto, unfolding(crate::specs::Words::word))]
 pub fn word_at(s: &[u8], at: usize) -> u32
     requires { at + 4 ≤ length s.now }
     ensures { result ≡ word s.now at }
 {
-    joined(s[at], s[at + 1], s[at + 2], s[at + 3])
+    u32::from_le_bytes([s[at], s[at + 1], s[at + 2], s[at + 3]])
 }
 
 // Number i of the bytes.
@@ -51,10 +37,7 @@ pub fn put_word(s: &mut [u8], i: usize, x: u32)
     ensures { Put s.old i x s.new }
 {
     let at = 4 * i;
-    s[at] = (x % 256) as u8;
-    s[at + 1] = (x / 256 % 256) as u8;
-    s[at + 2] = (x / 65536 % 256) as u8;
-    s[at + 3] = (x / 16777216 % 256) as u8;
+    s[at..at + 4].copy_from_slice(&x.to_le_bytes());
 }
 
 // Number i of those behind the first `base`. A part that begins there is cut out, so that a caller's loop works out its start once.
@@ -75,22 +58,21 @@ pub fn put_behind(s: &mut [u8], base: usize, i: usize, x: u32)
     put_word(&mut s[start..], i, x);
 }
 
-// What the n pairs at the front of a file say of its bodies; `laid_out`, the layout test of tables and records, asks it.
-pub fn read_bodies(s: &[u8], n: usize) -> Bodies
+// Where the bodies of the n pairs at the front of a file end, if each begins where the one before it ends. `laid_out`, the layout
+// test of tables and records, asks it.
+pub fn read_bodies(s: &[u8], n: usize) -> Option<u64>
     requires { 8 * n ≤ length s.now }
     ensures { result ≡ bodies_of n s.now }
 {
     let mut end = (8 * n) as u64;
-    let mut i = 0;
-    while i < n {
+    for i in 0..n {
         let at = 8 * i;
         if (word_at(s, at) as u64) != end {
-            return Bodies::Gap;
+            return None;
         }
         end += word_at(s, at + 4) as u64;
-        i += 1;
     }
-    Bodies::End(end)
+    Some(end)
 }
 
 // The n bodies that the contents claim have no gap and end where the file ends.
@@ -98,8 +80,5 @@ pub fn laid_out(s: &[u8], n: usize) -> bool
     requires { 8 * n ≤ length s.now }
     ensures { result ≡ ends_at (length s.now) (bodies_of n s.now) }
 {
-    match read_bodies(s, n) {
-        Bodies::Gap => false,
-        Bodies::End(e) => e == (s.len() as u64),
-    }
+    read_bodies(s, n) == Some(s.len() as u64)
 }

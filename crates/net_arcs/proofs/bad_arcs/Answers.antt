@@ -1,33 +1,24 @@
--- The goals of `bad_arcs`, from what Invariants says of its loop. Assumes nothing.
-use Prim.Native.Nat.{ℕ, ◌<◌}
+-- The chain goes over all arcs. Assumes nothing.
+use Prim.Native.Nat.{ℕ}
 use mathlib.Core.List.{List}
-use mathlib.Core.Path.{sym, ◌∙◌}
+use mathlib.Core.Path.{◌∙◌}
 use native.Mathlib.Omega.{arith}
-use lib.ListN.{get_or}
+use lib.ListN.{length, get_or}
+use borrow.Author.Tests.{tests}
+use Rattle.std.proofs.Common.{rules}
+use Rattle.std.proofs.lemmas.Iterator.{YieldsList-from_range}
+use Rattle.std.proofs.lemmas.Iterator.Search.{any_from_yields_List}
 use Rattle.words.specs.Lists.{pair_up}
-use Rattle.words.proofs.Scan.{any-turn, any_found, any-end}
+use Rattle.net.specs.Net.{Arc}
 use Rattle.net.specs.Table.{bad_arc}
 use Rattle.net.specs.Held.{net_in, arcs_in}
-use Rattle.net.proofs.Views.{arcs-length, arc-at}
+use Rattle.net.proofs.Chains.{any_at-is}
+use Rattle.net.proofs.Views.{arcs-length}
 use Rattle.net_arcs.proofs.bad_arcs.Goals as goal
 
-pub returns-then-bad_arc : goal.returns-then-bad_arc
-returns-then-bad_arc c = let l = c.loop-i in
-    let w : List ℕ = c.args.w.now in
-    let lt : l.i < get_or w 3 0 = omega (arith, c.wide-n.ensures) in
-    any_found (bad_arc (net_in w)) (pair_up (arcs_in w)) (0, 0) l.i (omega (arith, arcs-length w c.requires.sized c.requires.bounded))
-    (rw (arc-at w c.requires.sized c.requires.bounded l.i lt, ← c.wide.ensures, ← c.wide-in-loop-i.ensures) (sym c.bad_arc.ensures ∙ c.if-bad_arc.true)) ∙ l.invariant.1
-
-pub loop-i-preserved : goal.loop-i-preserved
-loop-i-preserved c = let l = c.loop-i in
-    let w : List ℕ = c.args.w.now in
-    let lt : l.i < get_or w 3 0 = omega (arith, c.wide-n.ensures) in (
-      omega arith,
-      any-turn (bad_arc (net_in w)) (pair_up (arcs_in w)) (0, 0) l.i (omega (arith, arcs-length w c.requires.sized c.requires.bounded))
-          (rw (arc-at w c.requires.sized c.requires.bounded l.i lt, ← c.wide.ensures, ← c.wide-in-loop-i.ensures) (sym c.bad_arc.ensures ∙ c.if-bad_arc.false)) ∙ l.invariant.1,
-    )
-
 pub returns : goal.returns
-returns c = let l = c.loop-i in
-    let w : List ℕ = c.args.w.now in
-    any-end (bad_arc (net_in w)) (pair_up (arcs_in w)) (0, 0) l.i (omega (arith, arcs-length w c.requires.sized c.requires.bounded, c.wide-n.ensures)) ∙ l.invariant.1
+returns c =
+    let w : List ℕ = c.args.w.words.now in
+    let xs : List Arc = pair_up (arcs_in w) in
+    any_from_yields_List (λ (j : ℕ). bad_arc (net_in w) (get_or xs j (0, 0))) _ _ _ c.any.ensures.ran (YieldsList-from_range 0 (length xs) (length xs) (search (rules, arcs-length w c.args.w.sized c.requires.bounded)) (omega arith)) (λ x b q k. search (rules, tests))
+    ∙ any_at-is (bad_arc (net_in w)) (0, 0) xs

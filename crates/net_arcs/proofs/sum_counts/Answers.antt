@@ -1,31 +1,33 @@
--- The goals of `sum_counts`, from what Invariants says of its loop. Assumes nothing.
-use Prim.Native.Nat.{ℕ, ◌≤◌, ◌<◌}
+-- The chain goes over the numbers of arcs of all activities, which are few. Assumes nothing.
+use Prim.Native.Nat.{ℕ, ◌^◌, ◌≤◌, ◌<◌}
 use mathlib.Core.List.{List}
-use mathlib.Core.Path.{◌≡◌, sym, ◌∙◌}
+use mathlib.Core.Path.{◌∙◌, refl, sym}
 use native.Mathlib.Omega.{arith}
-use lib.ListN.{get_or}
-use Rattle.words.proofs.Scan.{total-turn, total-end}
+use lib.ListN.{length, get_or}
+use Rattle.std.proofs.Common.{rules}
+use Rattle.std.specs.List.{sum_by}
+use Rattle.std.proofs.lemmas.Iterator.{YieldsList-from_slice, YieldsList-from_map}
+use Rattle.std.proofs.lemmas.Iterator.Consumers.{sum_by_from_yields_List, fits_by_from_yields_list}
+use Rattle.std.proofs.lemmas.List.Elements.{All-from_get_or}
+use Rattle.std.proofs.lemmas.List.Recursion.{is_sum_by}
+use Rattle.std.proofs.lemmas.List.Sums.{sum_by-le}
+use Rattle.words.specs.Lists.{total}
 use Rattle.net.specs.Held.{counts_in}
-use Rattle.net.proofs.Views.{counts-length, count_at}
+use Rattle.net.proofs.Views.{counts-length}
 use Rattle.net_arcs.proofs.sum_counts.Goals as goal
 
-pub overflow_add-sum : goal.overflow_add-sum
-overflow_add-sum c = let l = c.loop-i in
-    let w : List ℕ = c.args.w.now in
-    let lt : l.i < get_or w 2 0 = omega (arith, c.wide-n.ensures) in
-    let few : get_or (counts_in w) l.i 0 ≤ 8 = c.requires.by_index l.i (omega (arith, counts-length w c.requires.sized)) in
-    let e : get_or (counts_in w) l.i 0 ≡ c.wide-sum.result = count_at w c.requires.sized l.i lt ∙ sym c.wide-sum.ensures in
-    omega (arith, c.requires.sized.acts)
+few : (xs : List ℕ) → length xs ≤ 64 → ((i : ℕ) → i < length xs → get_or xs i 0 ≤ 8) → sum_by (λ (n : ℕ). n) xs < 2 ^ 64
+few xs l h = omega (arith, l, sum_by-le (λ (n : ℕ). n) 8 xs (All-from_get_or (λ (n : ℕ). n ≤ 8) xs 0 h))
 
-pub loop-i-preserved : goal.loop-i-preserved
-loop-i-preserved c = let l = c.loop-i in
-    let w : List ℕ = c.args.w.now in
-    let lt : l.i < get_or w 2 0 = omega (arith, c.wide-n.ensures) in
-    let few : get_or (counts_in w) l.i 0 ≤ 8 = c.requires.by_index l.i (omega (arith, counts-length w c.requires.sized)) in
-    let e : get_or (counts_in w) l.i 0 ≡ c.wide-sum.result = count_at w c.requires.sized l.i lt ∙ sym c.wide-sum.ensures in
-    (omega arith, omega arith, omega (arith, total-turn (λ (m : ℕ). m) (counts_in w) 0 l.i (omega (arith, counts-length w c.requires.sized))))
+pub sum-requires-clause-fits : goal.sum-requires-clause-fits
+sum-requires-clause-fits c =
+    let w : List ℕ = c.args.w.words.now in
+    let xs : List ℕ = c.counts.result.now in
+    fits_by_from_yields_list (λ (n : ℕ). n) xs c.map.result _ (YieldsList-from_map _ (λ (n : ℕ). n) (YieldsList-from_slice xs cc) c.map.ensures.closure (λ x r q k. search rules))
+    (rw c.counts.ensures (few (counts_in w) (omega (arith, counts-length w c.args.w.sized, c.args.w.sized.acts)) c.requires.by_index))
 
 pub returns : goal.returns
-returns c = let l = c.loop-i in
-    let w : List ℕ = c.args.w.now in
-    omega (arith, total-end (λ (m : ℕ). m) (counts_in w) 0 l.i (omega (arith, counts-length w c.requires.sized, c.wide-n.ensures)))
+returns c =
+    let xs : List ℕ = c.counts.result.now in
+    rw (← c.counts.ensures)
+    (sum_by_from_yields_List (λ (n : ℕ). n) xs c.map.result _ c.sum.ensures.ran (YieldsList-from_map _ (λ (n : ℕ). n) (YieldsList-from_slice xs cc) c.map.ensures.closure (λ x r q k. search rules)) ∙ sym (is_sum_by (total (λ (n : ℕ). n)) (λ (n : ℕ). n) refl (λ _ _. refl) xs))

@@ -1,29 +1,21 @@
 -- The goals of `read_bodies`, from what Invariants says of its loop. Assumes nothing.
 use mathlib.Core.Path.{refl, sym, ◌∙◌}
 use native.Mathlib.Nat.{sub-zero}
-use native.Mathlib.Omega.{arith}
 use Rattle.words.specs.Words.{bodies_of}
 use Rattle.words.proofs.Words.{bodies-more, bodies-gap, bodies-end}
 use Rattle.words.proofs.read_bodies.Goals as goal
 
 pub loop-i-init : goal.loop-i-init
 unfolding bodies_of
-loop-i-init c = (omega arith, rw sub-zero refl)
+loop-i-init c = rw sub-zero refl
 
 pub returns-then-word_at-end : goal.returns-then-word_at-end
 returns-then-word_at-end c =
     let l = c.loop-i in
-    bodies-gap _ _ _ _ c.loop-i-test.true (λ e. c.if-word_at-end.true (c.word_at.ensures ∙ e)) ∙ l.invariant.1
-
-pub overflow_add-end : goal.overflow_add-end
-overflow_add-end c = omega (arith, c.if-word_at-end.false, c.word_at.type_inv)
+    bodies-gap _ _ _ _ c.loop-i-test.true (λ e. c.if-word_at-end.true (c.word_at.ensures ∙ e)) ∙ l.invariant
 
 pub loop-i-preserved : goal.loop-i-preserved
-loop-i-preserved c = (
-  omega arith,
-  let l = c.loop-i in
-      rw c.word_at-in-loop-i.ensures (bodies-more _ _ _ _ c.loop-i-test.true (sym c.word_at.ensures ∙ c.if-word_at-end.false) ∙ l.invariant.1),
-)
+loop-i-preserved c = rw c.word_at-in-loop-i.ensures (bodies-more _ _ _ _ c.loop-i-test.true (sym c.word_at.ensures ∙ c.if-word_at-end.false) ∙ c.loop-i.invariant)
 
 pub returns : goal.returns
-returns c = bodies-end _ _ _ _ c.loop-i-test.false ∙ c.loop-i.invariant.1
+returns c = bodies-end _ _ _ _ c.loop-i-test.false ∙ c.loop-i.invariant

@@ -1,0 +1,10 @@
+-- `acts` meets its contract: how many activities, as the words' front says. Assumes nothing.
+use mathlib.Core.Path.{sym, ◌∙◌}
+use Rattle.net.proofs.Views.{acts-is}
+use Rattle.net.proofs.HeldLaws.{held-sized}
+use Rattle.net_lookup.proofs.LoadedNet.acts.Goals as goal
+
+pub returns : goal.returns
+returns c =
+    let w = c.args.self.now.words.now in
+    c.wide.ensures ∙ sym (acts-is w (held-sized w c.args.self.now.held))

@@ -1,0 +1,10 @@
+-- `kinds` meets its contract: how many kinds, as the words' front says. Assumes nothing.
+use mathlib.Core.Path.{sym, ◌∙◌}
+use Rattle.net.proofs.Views.{kinds-is}
+use Rattle.net.proofs.HeldLaws.{held-sized}
+use Rattle.net_lookup.proofs.LoadedNet.kinds.Goals as goal
+
+pub returns : goal.returns
+returns c =
+    let w = c.args.self.now.words.now in
+    c.wide.ensures ∙ sym (kinds-is w (held-sized w c.args.self.now.held))

@@ -1,7 +1,0 @@
--- `output` meets its contract: the output place of a kind, out of the look-up word. Assumes nothing.
-use Rattle.net.proofs.HeldLaws.{unpacked}
-use Rattle.net_lookup.proofs.output.Goals as goal
-
-pub returns : goal.returns
-returns c =
-    (unpacked c.args.t.now c.requires.held c.args.a c.args.k c.arc_word.result c.requires.known_act.0 c.requires.known_act.2 c.arc_word.ensures).1
