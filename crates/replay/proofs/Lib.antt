@@ -14,3 +14,4 @@ pub mod Simulate
 pub mod Tally
 pub mod Theorems
 pub mod Within
+pub mod ReadyOnce

@@ -1,12 +1,16 @@
 -- The answer to a close as document 01's number.
-use Rattle.std.specs.Prelude.{ℕ}
+use Rattle.std.specs.Prelude.{ℕ, Result, Ok, Err}
 use Rattle.replay.specs.Plain.{Ask, close}
-use Rattle.replay_close.specs.declared.CloseAnswer.{CloseAnswer}
-use Rattle.replay_close.specs.declared.CloseAnswer.TheVariants.{Taken, AlreadyClosed}
+use Rattle.replay_close.specs.declared.CloseError.{CloseError}
+use Rattle.replay_close.specs.declared.CloseError.TheVariants.{AlreadyClosed}
 
-abbrev pub close_answer_code : CloseAnswer → ℕ
-close_answer_code Taken = 0
-close_answer_code AlreadyClosed = 31
+abbrev pub close_error_code : CloseError → ℕ
+close_error_code AlreadyClosed = 31
+
+-- 0 where the trail was closed
+abbrev pub close_answer_code : Result Unit CloseError → ℕ
+close_answer_code (Ok x) = 0
+close_answer_code (Err e) = close_error_code e
 
 -- a close that is put to a trail
 abbrev pub ask_close : Ask

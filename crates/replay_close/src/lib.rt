@@ -15,46 +15,57 @@ ghost use Rattle.replay_layout.specs.Offsets.{layout_of};
 ghost use Rattle.replay.specs.Ready.{Ready};
 ghost use Rattle.replay_close.specs.Answers.{close_answer_code, ask_close};
 
-use net::NetWords;
-use replay_layout::{Layout, closed_at, closing_at, get_kind, read_layout};
-use replay_moves::{add, move_object};
+use net_lookup::LoadedNet;
+use replay_layout::{Layout, read_layout};
+use replay_moves::{TrailMut, add, move_object};
 
-// The answer to a close. `close_answer_code` gives document 01's number.
-#[derive(Drop)]
-pub enum CloseAnswer {
-    Taken,
-    // 31: already closed.
+// Why a close is refused. `close_error_code` gives document 01's number.
+#[derive(Clone, Copy)]
+pub enum CloseError {
+    // 31
     AlreadyClosed,
 }
 
 // Every object that the close takes (`closers`: all of them) jumps to its sink where it is not there, and is taken from it; the
 // jumps are added once, behind the last object.
-fn sink_objects(rec: &mut [u8], t: &NetWords, lay: Layout)
-    requires ready { Ready t.now rec.old }
-    requires laid_out { lay ≡ layout_of (net_in t.now) rec.old }
-    ensures { words_of rec.new ≡ record_words (table_in rec.old) (after_legs (net_in t.now) close_jumps (state_at rec.old) (endings (net_in t.now) (state_at rec.old).kinds)) }
+fn sink_objects(rec: &mut [u8], net: &LoadedNet, lay: Layout)
+    requires ready { Ready net.now.words.now rec.old }
+    requires laid_out { lay ≡ layout_of (net_in net.now.words.now) rec.old }
+    ensures { words_of rec.new ≡ record_words (table_in rec.old) (after_legs (net_in net.now.words.now) close_jumps (state_at rec.old) (endings (net_in net.now.words.now) (state_at rec.old).kinds)) }
 {
-    let mut o = 0;
     let mut jumps = 0u32;
-    while o < lay.objects {
-        let k = words::wide(get_kind(rec, t, lay, o));
-        let sink = net_lookup::sink(t, k);
+    for o in 0..lay.objects {
+        let k = words::wide(lay.get_kind(rec, net.words, o));
+        let sink = net.sink(k);
         jumps += move_object(rec, lay, o, sink, sink as u32);
-        o += 1;
     }
-    add(rec, closing_at(lay), jumps);
+    add(rec, lay.closing_at(), jumps);
+}
+
+// An open trail is closed in its record's bytes.
+fn take_close(rec: &mut [u8], net: &LoadedNet, lay: Layout)
+    requires ready { Ready net.now.words.now rec.old }
+    requires laid_out { lay ≡ layout_of (net_in net.now.words.now) rec.old }
+    requires is_open { (state_at rec.old).closed ≡ 0 }
+    ensures { rec.new ≡ ask_bytes rec.old ask_close }
+{
+    sink_objects(rec, net, lay);
+    words::put_word(rec, lay.closed_at(), 1);
 }
 
 // Closes a trail: it is closed already and nothing changes, or it is closed in the record's bytes.
-pub fn close(rec: &mut [u8], t: &NetWords) -> CloseAnswer
-    requires { Ready t.now rec.old }
-    ensures { (close_answer_code result ≡ ask_code rec.old ask_close) × (rec.new ≡ ask_bytes rec.old ask_close) }
+pub fn close(trail: &mut TrailMut) -> Result<(), CloseError>
+    ensures answer { close_answer_code result ≡ ask_code trail.old.rec.now ask_close }
+    ensures trail_after { trail.new.rec.now ≡ ask_bytes trail.old.rec.now ask_close }
+    ensures same_net { trail.new.net ≡ trail.old.net }
+    ensures same_bytes { trail.new.rec.ghost_name ≡ trail.old.rec.ghost_name }
 {
-    let lay = read_layout(rec, t);
-    if words::get_word(rec, closed_at(lay)) != 0 {
-        return CloseAnswer::AlreadyClosed;
+    let net = trail.net;
+    let rec = &mut *trail.rec;
+    let lay = read_layout(rec, &net);
+    if words::get_word(rec, lay.closed_at()) != 0 {
+        return Err(CloseError::AlreadyClosed);
     }
-    sink_objects(rec, t, lay);
-    words::put_word(rec, closed_at(lay), 1);
-    CloseAnswer::Taken
+    take_close(rec, &net, lay);
+    Ok(())
 }

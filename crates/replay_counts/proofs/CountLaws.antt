@@ -6,31 +6,52 @@ use mathlib.Core.List.{List, [], ◌∷◌, map}
 use native.Mathlib.Omega.{arith}
 use native.Mathlib.Nat.{zero-add, mul-le-mul, mul-le-mul_right}
 use native.Mathlib.Decide.{ℕ_discrete}
-use lib.ListN.{get_or}
+use lib.ListN.{length, get_or}
 use lib.Dec.{eqb}
 use borrow.Author.Tests.{eq-eqb, ne_eqb}
+use Rattle.std.specs.Int.{from_bool}
 use Rattle.words.specs.Lists.{pick, has, twice, one, total, sum_to}
 use Rattle.words.proofs.Lists.{clash}
-use Rattle.words.proofs.Sums.{sum_to-more}
+use Rattle.words.proofs.Sums.{sum_to-append, sum_to-same}
 use Rattle.net.specs.Net.{Net, Arc, Loaded, takes, arc_of, input_of}
-use Rattle.net.specs.Held.{net_in}
-use Rattle.replay.specs.State.{State, inputs, stored_pair, stored_moved}
+use Rattle.net.specs.Held.{net_in, Held}
+use Rattle.net.proofs.HeldLaws.{held-loaded}
+use Rattle.replay.specs.Plain.{closer_kinds}
+use Rattle.replay.specs.State.{State, inputs, sunk_on, stored_pair, stored_moved}
+use Rattle.replay.proofs.Accepted.{closers-kinds}
 use Rattle.replay.specs.Calls.{state_at}
-use Rattle.replay.specs.Ready.{Ready}
 use Rattle.replay_layout.proofs.RecordLaws.{ready-loaded}
-use Rattle.replay_stored.proofs.StoredLaws.{fired-few, jumps-few, pair-few}
+use Rattle.replay_layout.specs.Offsets.{layout_of}
+use Rattle.replay_stored.specs.declared.Trail.{Trail}
+use Rattle.replay_stored.specs.Stored.{Stored}
+use Rattle.replay_stored.proofs.StoredLaws.{are-stored}
 
--- sums
-sum-under : (n m : ℕ) (f : ℕ → ℕ) → ((i : ℕ) → i < n → f i ≤ m) → (i : ℕ) → i ≤ n → sum_to i f ≤ i * m
-sum-under n m f h zero l = omega arith
-sum-under n m f h (suc i) l = omega (arith, h i (omega arith), sum-under n m f h i (omega arith))
+-- the sum of numbers of which none is large
+sum-under : (n m : ℕ) (f : ℕ → ℕ) → ((i : ℕ) → i < n → f i ≤ m) → sum_to n f ≤ n * m
+sum-under zero m f h = omega arith
+sum-under (suc n) m f h = omega (arith, h n (omega arith), sum-under n m f (λ i l. h i (omega arith)))
 
-pub sum_step : (n : ℕ) (f : ℕ → ℕ) {s v : ℕ} → s ≡ sum_to n f → v ≡ f n → s + v ≡ sum_to (n + 1) f
-sum_step n f p q = omega (arith, sum_to-more n f)
+sum-few : (n m : ℕ) (f : ℕ → ℕ) → n ≤ 64 → ((i : ℕ) → i < n → f i ≤ m) → sum_to n f ≤ 64 * m
+sum-few n m f c h = omega (arith, sum-under n m f h, mul-le-mul_right m c)
 
--- at most 64 numbers
-sum-few : (n m : ℕ) (f : ℕ → ℕ) → n ≤ 64 → ((i : ℕ) → i < n → f i ≤ m) → (i : ℕ) → i ≤ n → sum_to i f ≤ 64 * m
-sum-few n m f c h i l = let k : i ≤ 64 = omega arith in omega (arith, sum-under n m f h i l, mul-le-mul_right m k)
+-- a sum over a list by its indices
+by_index : (w : ℕ → ℕ) (xs : List ℕ) → sum_to (length xs) (λ (i : ℕ). w (get_or xs i 0)) ≡ total w xs
+by_index w [] = refl
+by_index w (x ∷ xs) =
+    let f = λ (i : ℕ). w (get_or (x ∷ xs) i 0) in
+    let more : (i : ℕ) → i < length xs → f (1 + i) ≡ w (get_or xs i 0) = λ i l. let e : 1 + i ≡ suc i = omega arith in ap f e in
+    let e : suc (length xs) ≡ 1 + length xs = omega arith in
+    ap (λ (k : ℕ). sum_to k f) e
+    ∙ omega (arith, by_index w xs, sum_to-append (length xs) 1 f, sum_to-same (length xs) (λ (i : ℕ). f (1 + i)) (λ (i : ℕ). w (get_or xs i 0)) more)
+
+-- a test as a number
+pub one_is : (b : Bool) → from_bool b ≡ one b
+one_is true = refl
+one_is false = refl
+
+pub one_le : (b : Bool) → one b ≤ 1
+one_le true = omega arith
+one_le false = omega arith
 
 -- How many arcs of a list have the input place q, where no two are of one kind: the one of q's kind, if it has.
 module _ (kind_of : ℕ → ℕ) (q : ℕ) where
@@ -58,51 +79,78 @@ module _ (kind_of : ℕ → ℕ) (q : ℕ) where
 inputs-is : (N : Net) → Loaded N → (q a : ℕ) → a < N.acts → inputs N q a ≡ pick (takes N a (N.kind_of q)) (one (eqb q (input_of N a (N.kind_of q)))) 0
 inputs-is N L q a h = one_input N.kind_of q (N.arcs a) (L.arc-once a h)
 
--- the same, by the look-ups of q's kind k
-module _ (N : Net) (L : Loaded N) (q a k : ℕ) (h : a < N.acts) (e : k ≡ N.kind_of q) where
-  by_kind : inputs N q a ≡ pick (takes N a k) (one (eqb q (input_of N a k))) 0
-  by_kind = inputs-is N L q a h ∙ ap (λ (k : ℕ). pick (takes N a k) (one (eqb q (input_of N a k))) 0) (sym e)
-
-  pub not_taken : takes N a k ≡ false → 0 ≡ inputs N q a
-  not_taken t = sym (by_kind ∙ rw t)
-
-  pub other-input : takes N a k ≡ true → (input_of N a k ≡ q → ⊥) → 0 ≡ inputs N q a
-  other-input t n = sym (by_kind ∙ rw (t, ne_eqb q (input_of N a k) (λ z. n (sym z))))
-
-  pub its-input : takes N a k ≡ true → input_of N a k ≡ q → 1 ≡ inputs N q a
-  its-input t i = sym (by_kind ∙ rw (t, eq-eqb q (input_of N a k) (sym i)))
-
 inputs-le : (N : Net) → Loaded N → (q a : ℕ) → a < N.acts → inputs N q a ≤ 1
 inputs-le N L q a h = rw (inputs-is N L q a h) (go (takes N a (N.kind_of q)) (eqb q (input_of N a (N.kind_of q))))
   where
     go : (s t : Bool) → pick s (one t) 0 ≤ 1
-    go true true = omega arith
-    go true false = omega arith
+    go true t = one_le t
     go false t = omega arith
 
-module _ (w b : List ℕ) (R : Ready w b) where
+-- the same of the words of a loaded net
+pub kind_known : (w : List ℕ) → Held w → (q : ℕ) → q < (net_in w).places → (net_in w).kind_of q < (net_in w).kinds
+kind_known w H = (held-loaded w H).kind-in
+
+pub inputs_of : (w : List ℕ) → Held w → (q a : ℕ) → a < (net_in w).acts → inputs (net_in w) q a ≡ pick (takes (net_in w) a ((net_in w).kind_of q)) (one (eqb q (input_of (net_in w) a ((net_in w).kind_of q)))) 0
+inputs_of w H = inputs-is (net_in w) (held-loaded w H)
+
+-- MOVED: FIRED times at most 8 arcs
+pub arcs_few : (w : List ℕ) → Held w → (a : ℕ) → a < (net_in w).acts → length ((net_in w).arcs a) ≤ 8
+arcs_few w H a h = (held-loaded w H).arcs-le a h
+
+pub moved_few : (f n : ℕ) → f ≤ 1000000 → n ≤ 8 → f * n ≤ 8000000
+moved_few f n h g = omega (arith, mul-le-mul h g)
+
+-- what is added up over a trail
+module _ (t : Trail) where
   abbrev N : Net
-  N = net_in w
+  N = net_in t.net.words.now
 
   abbrev d : State
-  d = state_at b
+  d = state_at t.rec.now
 
-  pub moved-few : (a : ℕ) → a < (net_in w).acts → stored_moved (net_in w) (state_at b) a ≤ 8000000
-  moved-few a h = omega (arith, mul-le-mul (fired-few w b R a h) ((ready-loaded w b R).arcs-le a h))
+  abbrev pub into : ℕ → ℕ → ℕ
+  into q x = stored_pair N d x q
 
-  -- and the sums of them
-  pub in-few : (q : ℕ) → q < (net_in w).places → (i : ℕ) → i ≤ (net_in w).places → sum_to i (λ (x : ℕ). stored_pair (net_in w) (state_at b) x q) ≤ 512065536
-  in-few q h = sum-few N.places 8001024 (λ (x : ℕ). stored_pair N d x q) (ready-loaded w b R).places-le (λ x l. pair-few w b R x q l h)
+  abbrev pub out_of : ℕ → ℕ → ℕ
+  out_of q y = stored_pair N d q y
 
-  pub out-few : (q : ℕ) → q < (net_in w).places → (i : ℕ) → i ≤ (net_in w).places → sum_to i (λ (y : ℕ). stored_pair (net_in w) (state_at b) q y) ≤ 512065536
-  out-few q h = sum-few N.places 8001024 (λ (y : ℕ). stored_pair N d q y) (ready-loaded w b R).places-le (λ y l. pair-few w b R q y h l)
+  abbrev pub taken : ℕ → ℕ → ℕ
+  taken q a = get_or d.fired a 0 * inputs N q a
 
-  pub taken-few : (q i : ℕ) → i ≤ (net_in w).acts → sum_to i (λ (a : ℕ). get_or (state_at b).fired a 0 * inputs (net_in w) q a) ≤ 64000000
-  taken-few q = sum-few N.acts 1000000 (λ (a : ℕ). get_or d.fired a 0 * inputs N q a) (ready-loaded w b R).acts-le
-      (λ a l. omega (arith, mul-le-mul (fired-few w b R a l) (inputs-le N (ready-loaded w b R) q a l)))
+  abbrev pub sunk : ℕ → ℕ → ℕ
+  sunk q o = one (eqb q (N.sink (get_or d.kinds o 0)))
 
-  pub jumps-sum-few : (i : ℕ) → i ≤ (net_in w).acts → sum_to i (λ (a : ℕ). get_or (state_at b).jumps a 0) ≤ 512000000
-  jumps-sum-few = sum-few N.acts 8000000 (λ (a : ℕ). get_or d.jumps a 0) (ready-loaded w b R).acts-le (jumps-few w b R)
+  abbrev pub jumps : ℕ → ℕ
+  jumps a = get_or d.jumps a 0
 
-  pub moved-sum-few : (i : ℕ) → i ≤ (net_in w).acts → sum_to i (λ (a : ℕ). stored_moved (net_in w) (state_at b) a) ≤ 512000000
-  moved-sum-few = sum-few N.acts 8000000 (λ (a : ℕ). stored_moved N d a) (ready-loaded w b R).acts-le moved-few
+  abbrev pub moves : ℕ → ℕ
+  moves a = stored_moved N d a
+
+  -- and how much it can be
+  loaded : Loaded N
+  loaded = ready-loaded t.net.words.now t.rec.now t.ready
+
+  stored : Stored t.net.words.now t.rec.now (layout_of N t.rec.now)
+  stored = are-stored t.net.words.now t.rec.now t.ready (layout_of N t.rec.now) refl
+
+  pub into-few : (q : ℕ) → q < (net_in t.net.words.now).places → sum_to (net_in t.net.words.now).places (into q) ≤ 512065536
+  into-few q h = sum-few N.places 8001024 (into q) loaded.places-le (λ x l. (stored.pair x q l h).few)
+
+  pub out-few : (q : ℕ) → q < (net_in t.net.words.now).places → sum_to (net_in t.net.words.now).places (out_of q) ≤ 512065536
+  out-few q h = sum-few N.places 8001024 (out_of q) loaded.places-le (λ y l. (stored.pair q y h l).few)
+
+  pub taken-few : (q : ℕ) → sum_to (net_in t.net.words.now).acts (taken q) ≤ 64000000
+  taken-few q = sum-few N.acts 1000000 (taken q) loaded.acts-le (λ a l. omega (arith, mul-le-mul (stored.fired a l).few (inputs-le N loaded q a l)))
+
+  pub jumps-few : sum_to (net_in t.net.words.now).acts jumps ≤ 512000000
+  jumps-few = sum-few N.acts 8000000 jumps loaded.acts-le (λ a l. (stored.jumps a l).few)
+
+  pub moves-few : sum_to (net_in t.net.words.now).acts moves ≤ 512000000
+  moves-few = sum-few N.acts 8000000 moves loaded.acts-le (λ a l. moved_few _ _ (stored.fired a l).few (loaded.arcs-le a l))
+
+  -- the close takes every object
+  pub sunk-is : (q : ℕ) → sum_to (length (state_at t.rec.now).kinds) (sunk q) ≡ sunk_on (net_in t.net.words.now) (closer_kinds (state_at t.rec.now).kinds) q
+  sunk-is q = by_index (λ (k : ℕ). one (eqb q (N.sink k))) d.kinds ∙ ap (λ (ks : List ℕ). sunk_on N ks q) (sym (closers-kinds d.kinds))
+
+  pub sunk-few : (q : ℕ) → sum_to (length (state_at t.rec.now).kinds) (sunk q) ≤ 1024
+  sunk-few q = omega (arith, sum-under (length d.kinds) 1 (sunk q) (λ o l. one_le (eqb q (N.sink (get_or d.kinds o 0)))), stored.objects_few)

@@ -1,15 +1,11 @@
 -- Reading counts from a trail's bytes: what each reader gives, and the paper's number and values for each of its cases.
-use Rattle.std.specs.Prelude.{ℕ, Bool, List, [], ◌∷◌, length, get_or, leb}
+use Rattle.std.specs.Prelude.{ℕ, Bool, List, [], ◌∷◌, Option, None, Some, length, get_or, leb}
 use Rattle.words.specs.Lists.{pick}
 use Rattle.words.specs.Refusals.{first}
 use Rattle.replay.specs.State.{stored_consumed, stored_pair, stored_jumps_in, stored_jumps_out, stored_moved, stored_jumps, stored_transfers}
 use Rattle.replay.specs.Calls.{net_at, state_at}
-use Rattle.replay_counts.specs.declared.PlaceRead.{PlaceRead}
-use Rattle.replay_counts.specs.declared.PlaceRead.TheVariants as place
-use Rattle.replay_counts.specs.declared.ActRead.{ActRead}
-use Rattle.replay_counts.specs.declared.ActRead.TheVariants as act
-use Rattle.replay_counts.specs.declared.PairRead.{PairRead}
-use Rattle.replay_counts.specs.declared.PairRead.TheVariants as pair
+use Rattle.replay_counts.specs.declared.PlaceCounts.{PlaceCounts}
+use Rattle.replay_counts.specs.declared.ActCounts.{ActCounts}
 use Rattle.replay_counts.specs.declared.TrailCounts.{TrailCounts}
 
 -- 51: an unknown place. 52: an unknown activity.
@@ -32,37 +28,37 @@ unfoldable pub pair_code : List ℕ → ℕ → ℕ → ℕ
 pair_code b x y = first (pair_tests b x y)
 
 -- the number of each answer, 0 where there are counts
-abbrev pub place_read_code : PlaceRead → ℕ
-place_read_code place.Unknown = 51
-place_read_code (place.Counts v) = 0
+abbrev pub place_read_code : Option PlaceCounts → ℕ
+place_read_code None = 51
+place_read_code (Some v) = 0
 
-abbrev pub act_read_code : ActRead → ℕ
-act_read_code act.Unknown = 52
-act_read_code (act.Counts v) = 0
+abbrev pub act_read_code : Option ActCounts → ℕ
+act_read_code None = 52
+act_read_code (Some v) = 0
 
-abbrev pub pair_read_code : PairRead → ℕ
-pair_read_code pair.Unknown = 51
-pair_read_code (pair.Count v) = 0
+abbrev pub pair_read_code : Option ℕ → ℕ
+pair_read_code None = 51
+pair_read_code (Some v) = 0
 
 -- a place: TAKEN, IN, OUT
-unfoldable pub place_read : List ℕ → ℕ → PlaceRead
-place_read b q = pick (leb (net_at b).places q) place.Unknown (place.Counts (record {
+unfoldable pub place_read : List ℕ → ℕ → Option PlaceCounts
+place_read b q = pick (leb (net_at b).places q) None (Some (record {
   consumed = stored_consumed (net_at b) (state_at b) q;
   jumps_in = stored_jumps_in (net_at b) (state_at b) q;
   jumps_out = stored_jumps_out (net_at b) (state_at b) q;
 }))
 
 -- an activity: FIRED, MOVED, JUMPS
-unfoldable pub act_read : List ℕ → ℕ → ActRead
-act_read b a = pick (leb (net_at b).acts a) act.Unknown (act.Counts (record {
+unfoldable pub act_read : List ℕ → ℕ → Option ActCounts
+act_read b a = pick (leb (net_at b).acts a) None (Some (record {
   fired = get_or (state_at b).fired a 0;
   moved = stored_moved (net_at b) (state_at b) a;
   jumps = get_or (state_at b).jumps a 0;
 }))
 
 -- an ordered pair of places
-unfoldable pub pair_read : List ℕ → ℕ → ℕ → PairRead
-pair_read b x y = pick (leb (net_at b).places x) pair.Unknown (pick (leb (net_at b).places y) pair.Unknown (pair.Count (stored_pair (net_at b) (state_at b) x y)))
+unfoldable pub pair_read : List ℕ → ℕ → ℕ → Option ℕ
+pair_read b x y = pick (leb (net_at b).places x) None (pick (leb (net_at b).places y) None (Some (stored_pair (net_at b) (state_at b) x y)))
 
 -- the whole trail
 unfoldable pub trail_read : List ℕ → TrailCounts

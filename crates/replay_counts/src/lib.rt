@@ -5,59 +5,34 @@
 
 ghost use Rattle.std.specs.Prelude.{◌≡◌, ◌+◌, ◌*◌, ◌<◌, ◌≤◌, length, get_or, eqb};
 ghost use Rattle.words.specs.Lists.{one, sum_to};
-ghost use Rattle.net.specs.Held.{net_in, Held};
+ghost use Rattle.net.specs.Held.{net_in};
 ghost use Rattle.replay.specs.Plain.{closer_kinds};
 ghost use Rattle.replay.specs.State.{inputs, sunk_on, stored_consumed, stored_jumps_in, stored_jumps_out, stored_moved, stored_jumps, stored_transfers};
 ghost use Rattle.replay.specs.Calls.{state_at};
-ghost use Rattle.replay.specs.Ready.{Ready};
 ghost use Rattle.replay_counts.specs.Reads.{place_read, place_code, place_read_code, act_read, act_code, act_read_code, pair_read, pair_code, pair_read_code, trail_read};
 
-use net::NetWords;
-use replay_stored::{closed, closing, events, fired, jumps_of, kind, objects, pair};
+use net_lookup::LoadedNet;
+use replay_stored::Trail;
 use words::wide;
 
 // The counts of a place: TAKEN, IN and OUT.
-#[derive(Drop)]
+#[derive(Clone, Copy)]
 pub struct PlaceCounts {
     pub consumed: u32,
     pub jumps_in: u32,
     pub jumps_out: u32,
 }
 
-// What reading a place gives. `place_read_code` gives document 01's number.
-#[derive(Drop)]
-pub enum PlaceRead {
-    // 51: unknown place.
-    Unknown,
-    Counts(PlaceCounts),
-}
-
 // The counts of an activity: FIRED, MOVED and JUMPS.
-#[derive(Drop)]
+#[derive(Clone, Copy)]
 pub struct ActCounts {
     pub fired: u32,
     pub moved: u32,
     pub jumps: u32,
 }
 
-// What reading an activity gives. `act_read_code` gives document 01's number.
-#[derive(Drop)]
-pub enum ActRead {
-    // 52: unknown activity.
-    Unknown,
-    Counts(ActCounts),
-}
-
-// What reading an ordered pair of places gives. `pair_read_code` gives document 01's number.
-#[derive(Drop)]
-pub enum PairRead {
-    // 51: unknown place.
-    Unknown,
-    Count(u32),
-}
-
 // The counts of the whole trail.
-#[derive(Drop)]
+#[derive(Clone, Copy)]
 pub struct TrailCounts {
     pub objects: u32,
     pub events: u32,
@@ -66,212 +41,157 @@ pub struct TrailCounts {
 }
 
 // MOVED of activity a: FIRED times its arcs.
-fn moved(rec: &[u8], t: &NetWords, a: usize) -> u32
-    requires ready { Ready t.now rec.now }
-    requires known_act { a < (net_in t.now).acts }
-    ensures { (result ≡ stored_moved (net_in t.now) (state_at rec.now) a) × (result ≤ 8000000) }
+#[tactic(auto, using(crate::proofs::CountLaws::arcs_few, crate::proofs::CountLaws::moved_few))]
+fn moved(trail: &Trail, a: usize) -> u32
+    requires known_act { a < (net_in trail.now.net.words.now).acts }
+    ensures { (result ≡ stored_moved (net_in trail.now.net.words.now) (state_at trail.now.rec.now) a) × (result ≤ 8000000) }
 {
-    let n = net_lookup::arcs(t, a);
-    fired(rec, t, a) * (n as u32)
+    let n = trail.net.arcs(a);
+    trail.fired(a) * (n as u32)
 }
 
 // IN of place q: the jumps from every place to it.
-fn jumps_in(rec: &[u8], t: &NetWords, q: usize) -> u32
-    requires ready { Ready t.now rec.now }
-    requires known_place { q < (net_in t.now).places }
-    ensures { result ≡ stored_jumps_in (net_in t.now) (state_at rec.now) q }
+fn jumps_in(trail: &Trail, q: usize) -> u32
+    requires known_place { q < (net_in trail.now.net.words.now).places }
+    ensures { result ≡ stored_jumps_in (net_in trail.now.net.words.now) (state_at trail.now.rec.now) q }
 {
-    let n = net_lookup::places(t);
-    let mut sum = 0u32;
-    let mut x = 0;
-    while x < n {
-        sum += pair(rec, t, x, q);
-        x += 1;
-    }
-    sum
+    (0..trail.net.places()).map(|x| trail.pair(x, q)).sum()
 }
 
 // OUT of place q: the jumps from it to every place.
-fn jumps_out(rec: &[u8], t: &NetWords, q: usize) -> u32
-    requires ready { Ready t.now rec.now }
-    requires known_place { q < (net_in t.now).places }
-    ensures { result ≡ stored_jumps_out (net_in t.now) (state_at rec.now) q }
+fn jumps_out(trail: &Trail, q: usize) -> u32
+    requires known_place { q < (net_in trail.now.net.words.now).places }
+    ensures { result ≡ stored_jumps_out (net_in trail.now.net.words.now) (state_at trail.now.rec.now) q }
 {
-    let n = net_lookup::places(t);
-    let mut sum = 0u32;
-    let mut y = 0;
-    while y < n {
-        sum += pair(rec, t, q, y);
-        y += 1;
-    }
-    sum
+    (0..trail.net.places()).map(|y| trail.pair(q, y)).sum()
 }
 
-// How many arcs of activity a have the input place q: one or none, as only one arc can be of that place's kind.
-fn inputs_on(t: &NetWords, q: usize, a: usize) -> u32
-    requires held { Held t.now }
-    requires known_place { (q < (net_in t.now).places) × (a < (net_in t.now).acts) }
-    ensures { (result ≡ inputs (net_in t.now) q a) × (result ≤ 1) }
+// An arc of activity a has the input place q. No more than one has, as only one arc can be of that place's kind.
+#[tactic(auto, using(crate::proofs::CountLaws::kind_known, crate::proofs::CountLaws::inputs_of))]
+fn inputs_on(net: &LoadedNet, q: usize, a: usize) -> bool
+    requires known_place { (q < (net_in net.now.words.now).places) × (a < (net_in net.now.words.now).acts) }
+    ensures { one result ≡ inputs (net_in net.now.words.now) q a }
 {
-    let k = net_lookup::kind_of(t, q);
-    if !net_lookup::takes_kind(t, a, k) {
-        return 0;
-    }
-    if net_lookup::input(t, a, k) != q {
-        return 0;
-    }
-    1
+    let k = net.kind_of(q);
+    net.takes_kind(a, k) && net.input(a, k) == q
 }
 
 // How many objects the events took from place q.
-fn taken_by_events(rec: &[u8], t: &NetWords, q: usize) -> u32
-    requires ready { Ready t.now rec.now }
-    requires known_place { q < (net_in t.now).places }
-    ensures { (result ≡ sum_to (net_in t.now).acts (λ a. get_or (state_at rec.now).fired a 0 * inputs (net_in t.now) q a)) × (result ≤ 64000000) }
+fn taken_by_events(trail: &Trail, q: usize) -> u32
+    requires known_place { q < (net_in trail.now.net.words.now).places }
+    ensures { (result ≡ sum_to (net_in trail.now.net.words.now).acts (λ a. get_or (state_at trail.now.rec.now).fired a 0 * inputs (net_in trail.now.net.words.now) q a)) × (result ≤ 64000000) }
 {
-    let n = net_lookup::acts(t);
-    let mut sum = 0u32;
-    let mut a = 0;
-    while a < n {
-        sum += fired(rec, t, a) * inputs_on(t, q, a);
-        a += 1;
-    }
-    sum
+    (0..trail.net.acts())
+        .map(|a| trail.fired(a) * u32::from(inputs_on(&trail.net, q, a)))
+        .sum()
 }
 
-// 1 where the sink of object o is place q, else 0.
-fn sinks_on(rec: &[u8], t: &NetWords, q: usize, o: usize) -> u32
-    requires ready { Ready t.now rec.now }
-    requires known_object { o < length (state_at rec.now).kinds }
-    ensures { (result ≡ one (eqb q ((net_in t.now).sink (get_or (state_at rec.now).kinds o 0)))) × (result ≤ 1) }
+// The sink of object o is place q.
+fn sinks_on(trail: &Trail, q: usize, o: usize) -> bool
+    requires known_object { o < length (state_at trail.now.rec.now).kinds }
+    ensures { result ≡ eqb q ((net_in trail.now.net.words.now).sink (get_or (state_at trail.now.rec.now).kinds o 0)) }
 {
-    let k = kind(rec, t, o);
-    if net_lookup::sink(t, k) != q {
-        return 0;
-    }
-    1
+    let k = trail.kind(o);
+    trail.net.sink(k) == q
 }
 
 // How many of the objects that the close takes (`closers`: all of them) have the sink q.
-fn sunk_on(rec: &[u8], t: &NetWords, q: usize) -> u32
-    requires { Ready t.now rec.now }
-    ensures { (result ≡ sunk_on (net_in t.now) (closer_kinds (state_at rec.now).kinds) q) × (result ≤ 1024) }
+fn sunk_on(trail: &Trail, q: usize) -> u32
+    ensures { (result ≡ sunk_on (net_in trail.now.net.words.now) (closer_kinds (state_at trail.now.rec.now).kinds) q) × (result ≤ 1024) }
 {
-    let n = objects(rec, t);
-    let mut sum = 0u32;
-    let mut o = 0;
-    while o < n {
-        sum += sinks_on(rec, t, q, o);
-        o += 1;
-    }
-    sum
+    (0..trail.objects())
+        .map(|o| u32::from(sinks_on(trail, q, o)))
+        .sum()
 }
 
 // TAKEN of place q: by the events as their input place, and by the close as a sink.
-fn consumed(rec: &[u8], t: &NetWords, q: usize) -> u32
-    requires ready { Ready t.now rec.now }
-    requires known_place { q < (net_in t.now).places }
-    ensures { result ≡ stored_consumed (net_in t.now) (state_at rec.now) q }
+#[tactic(auto, using(crate::proofs::CountLaws::one_is, crate::proofs::CountLaws::one_le))]
+fn consumed(trail: &Trail, q: usize) -> u32
+    requires known_place { q < (net_in trail.now.net.words.now).places }
+    ensures { result ≡ stored_consumed (net_in trail.now.net.words.now) (state_at trail.now.rec.now) q }
 {
-    let by_events = taken_by_events(rec, t, q);
-    let at_close = closed(rec, t) * sunk_on(rec, t, q);
+    let by_events = taken_by_events(trail, q);
+    let at_close = u32::from(trail.closed()) * sunk_on(trail, q);
     by_events + at_close
 }
 
 // The jumps of the whole trail: JUMPS of every activity, and the closing jumps.
-fn all_jumps(rec: &[u8], t: &NetWords) -> u32
-    requires { Ready t.now rec.now }
-    ensures { result ≡ stored_jumps (net_in t.now) (state_at rec.now) }
+fn all_jumps(trail: &Trail) -> u32
+    ensures { result ≡ stored_jumps (net_in trail.now.net.words.now) (state_at trail.now.rec.now) }
 {
-    let n = net_lookup::acts(t);
-    let mut sum = 0u32;
-    let mut a = 0;
-    while a < n {
-        sum += jumps_of(rec, t, a);
-        a += 1;
-    }
-    let last = closing(rec, t);
+    let sum: u32 = (0..trail.net.acts()).map(|a| trail.jumps_of(a)).sum();
+    let last = trail.closing();
     sum + last
 }
 
 // The transfers of the whole trail: MOVED of every activity, and once closed the objects that the close takes (`closers`: all of
 // them).
-fn transfers(rec: &[u8], t: &NetWords) -> u32
-    requires { Ready t.now rec.now }
-    ensures { result ≡ stored_transfers (net_in t.now) (state_at rec.now) }
+fn transfers(trail: &Trail) -> u32
+    ensures { result ≡ stored_transfers (net_in trail.now.net.words.now) (state_at trail.now.rec.now) }
 {
-    let n = net_lookup::acts(t);
-    let mut sum = 0u32;
-    let mut a = 0;
-    while a < n {
-        sum += moved(rec, t, a);
-        a += 1;
-    }
-    let removed = closed(rec, t) * (objects(rec, t) as u32);
+    let sum: u32 = (0..trail.net.acts()).map(|a| moved(trail, a)).sum();
+    let removed = u32::from(trail.closed()) * (trail.objects() as u32);
     sum + removed
 }
 
-// Reads the counts of place q.
-pub fn read_place(rec: &[u8], t: &NetWords, q: u32) -> PlaceRead
-    requires { Ready t.now rec.now }
-    ensures answer { result ≡ place_read rec.now q }
-    ensures code { place_read_code result ≡ place_code rec.now q }
+// Reads the counts of place q. `None` is an unknown place, number 51 by `place_read_code`.
+#[tactic(auto, unfolding(crate::specs::Reads::place_read, crate::specs::Reads::place_code))]
+pub fn read_place(trail: &Trail, q: u32) -> Option<PlaceCounts>
+    ensures answer { result ≡ place_read trail.now.rec.now q }
+    ensures code { place_read_code result ≡ place_code trail.now.rec.now q }
 {
     let i = wide(q);
-    if net_lookup::places(t) <= i {
-        return PlaceRead::Unknown;
+    if trail.net.places() <= i {
+        return None;
     }
-    PlaceRead::Counts(PlaceCounts {
-        consumed: consumed(rec, t, i),
-        jumps_in: jumps_in(rec, t, i),
-        jumps_out: jumps_out(rec, t, i),
+    Some(PlaceCounts {
+        consumed: consumed(trail, i),
+        jumps_in: jumps_in(trail, i),
+        jumps_out: jumps_out(trail, i),
     })
 }
 
-// Reads the counts of activity a.
-pub fn read_act(rec: &[u8], t: &NetWords, a: u32) -> ActRead
-    requires { Ready t.now rec.now }
-    ensures answer { result ≡ act_read rec.now a }
-    ensures code { act_read_code result ≡ act_code rec.now a }
+// Reads the counts of activity a. `None` is an unknown activity, number 52 by `act_read_code`.
+#[tactic(auto, unfolding(crate::specs::Reads::act_read, crate::specs::Reads::act_code))]
+pub fn read_act(trail: &Trail, a: u32) -> Option<ActCounts>
+    ensures answer { result ≡ act_read trail.now.rec.now a }
+    ensures code { act_read_code result ≡ act_code trail.now.rec.now a }
 {
     let i = wide(a);
-    if net_lookup::acts(t) <= i {
-        return ActRead::Unknown;
+    if trail.net.acts() <= i {
+        return None;
     }
-    ActRead::Counts(ActCounts {
-        fired: fired(rec, t, i),
-        moved: moved(rec, t, i),
-        jumps: jumps_of(rec, t, i),
+    Some(ActCounts {
+        fired: trail.fired(i),
+        moved: moved(trail, i),
+        jumps: trail.jumps_of(i),
     })
 }
 
-// Reads the jump count from place `from` to place `to`.
-pub fn read_pair(rec: &[u8], t: &NetWords, from: u32, to: u32) -> PairRead
-    requires { Ready t.now rec.now }
-    ensures answer { result ≡ pair_read rec.now from to }
-    ensures code { pair_read_code result ≡ pair_code rec.now from to }
+// Reads the jump count from place `from` to place `to`. `None` is an unknown place, number 51 by `pair_read_code`.
+#[tactic(auto, unfolding(crate::specs::Reads::pair_read, crate::specs::Reads::pair_code))]
+pub fn read_pair(trail: &Trail, from: u32, to: u32) -> Option<u32>
+    ensures answer { result ≡ pair_read trail.now.rec.now from to }
+    ensures code { pair_read_code result ≡ pair_code trail.now.rec.now from to }
 {
-    let n = net_lookup::places(t);
+    let n = trail.net.places();
     let x = wide(from);
     let y = wide(to);
-    if n <= x {
-        return PairRead::Unknown;
+    if n <= x || n <= y {
+        return None;
     }
-    if n <= y {
-        return PairRead::Unknown;
-    }
-    PairRead::Count(pair(rec, t, x, y))
+    Some(trail.pair(x, y))
 }
 
 // Reads the counts of the whole trail, of an open one too.
-pub fn read_trail(rec: &[u8], t: &NetWords) -> TrailCounts
-    requires { Ready t.now rec.now }
-    ensures { result ≡ trail_read rec.now }
+#[tactic(auto, unfolding(crate::specs::Reads::trail_read))]
+pub fn read_trail(trail: &Trail) -> TrailCounts
+    ensures { result ≡ trail_read trail.now.rec.now }
 {
     TrailCounts {
-        objects: objects(rec, t) as u32,
-        events: events(rec, t),
-        jumps: all_jumps(rec, t),
-        transfers: transfers(rec, t),
+        objects: trail.objects() as u32,
+        events: trail.events(),
+        jumps: all_jumps(trail),
+        transfers: transfers(trail),
     }
 }

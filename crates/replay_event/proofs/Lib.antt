@@ -1,3 +1,4 @@
-pub mod Asked
+pub mod Answered
+pub mod Asks
 pub mod Steps
 pub mod Taken

@@ -13,19 +13,17 @@ ghost use Rattle.replay.specs.Plain.{legs, object_tests, event_of, ask_event};
 ghost use Rattle.replay.specs.State.{act_jumps, after_legs, after_event, answer_s};
 ghost use Rattle.replay.specs.Record.{table_in, record_words};
 ghost use Rattle.replay.specs.Calls.{state_at, ask_code, ask_bytes};
-ghost use Rattle.replay_layout.specs.Offsets.{layout_of};
-ghost use Rattle.replay.specs.Ready.{Ready};
-ghost use Rattle.replay_event.specs.Answers.{event_answer_code, ObjectCode, Counted, Moving};
+ghost use Rattle.replay_objects.specs.ObjectAnswers.{object_answer_code, object_error_code};
+ghost use Rattle.replay_event.specs.Answers.{event_answer_code, event_error_code};
 
-use net::NetWords;
-use replay_layout::{Layout, closed_at, events_at, fired_at, get_kind, jumps_at, read_layout};
-use replay_moves::{add, add_one, move_object};
-use replay_objects::objects::refuse_objects;
+use net_lookup::LoadedNet;
+use replay_layout::{Layout, read_layout};
+use replay_moves::{TrailMut, add, move_object};
+use replay_objects::objects::{ObjectError, refuse_objects};
 
-// The answer to an event. `event_answer_code` gives document 01's number.
-#[derive(Drop)]
-pub enum EventAnswer {
-    Taken,
+// Why an event is refused. `event_error_code` gives document 01's number.
+#[derive(Clone, Copy)]
+pub enum EventError {
     // 21: the trail is closed.
     Closed,
     // 22: 1,000,000 events are already accepted.
@@ -42,102 +40,133 @@ pub enum EventAnswer {
     TwoOfKind,
 }
 
-// The answer of a number that the tests of an event's objects give.
-fn object_answer(code: u32) -> EventAnswer
-    requires { ObjectCode code }
-    ensures { event_answer_code result ≡ code }
-{
-    match code {
-        0 => EventAnswer::Taken,
-        25 => EventAnswer::Object,
-        26 => EventAnswer::Kind,
-        _ => EventAnswer::TwoOfKind,
+impl From<ObjectError> for EventError {
+    ghost from_gives = { λ x y. event_error_code y ≡ object_error_code x };
+
+    fn from(e: ObjectError) -> EventError {
+        match e {
+            ObjectError::Object => EventError::Object,
+            ObjectError::Kind => EventError::Kind,
+            ObjectError::TwoOfKind => EventError::TwoOfKind,
+        }
     }
 }
 
-// 25 to 27: the tests of an event's objects.
-fn test_objects(rec: &[u8], t: &NetWords, lay: Layout, act: usize, objs: &[u8]) -> EventAnswer
-    requires { Counted t.now rec.now lay act (words_of objs.now) }
-    ensures code { event_answer_code result ≡ first (object_tests (net_in t.now) (state_at rec.now).kinds act (words_of objs.now)) }
-{
-    let from = 4 * lay.register;
-    let to = 4 * lay.positions;
-    object_answer(refuse_objects(objs, act, &rec[from..to], t))
+// An event that is put to a trail, with the trail's net and the layout of its record.
+#[derive(Clone, Copy)]
+struct Asked<'t, 'o> {
+    net: LoadedNet<'t>,
+    lay: Layout,
+    act: usize,
+    objs: &'o [u8],
 }
 
-// 21 to 27: the first that applies.
-#[tactic(auto, using(crate::proofs::Asked::is_full))]
-fn refuse(rec: &[u8], t: &NetWords, lay: Layout, act: usize, objs: &[u8]) -> EventAnswer
-    requires ready { Ready t.now rec.now }
-    requires laid_out { lay ≡ layout_of (net_in t.now) rec.now }
-    ensures code { event_answer_code result ≡ answer_s (net_in t.now) (state_at rec.now) (ask_event act (words_of objs.now)) }
-{
-    if words::get_word(rec, closed_at(lay)) != 0 {
-        return EventAnswer::Closed;
-    }
-    if 1000000 <= words::get_word(rec, events_at(lay)) {
-        return EventAnswer::Full;
-    }
-    if net_lookup::acts(t) <= act {
-        return EventAnswer::Activity;
-    }
-    if objs.len() / 4 != net_lookup::arcs(t, act) {
-        return EventAnswer::Number;
-    }
-    test_objects(rec, t, lay, act, objs)
-}
+impl Asked<'_, '_> {
+    ghost use Rattle.replay_event.specs.Asked.{Laid, Counted, Moving};
 
-// Every object of the event jumps where it has to, and is moved; the activity's jumps are added once, behind the last object.
-fn step_objects(rec: &mut [u8], t: &NetWords, lay: Layout, act: usize, objs: &[u8])
-    requires { Moving t.now rec.old lay act (words_of objs.now) }
-    ensures { words_of rec.new ≡ record_words (table_in rec.old) (after_legs (net_in t.now) act_jumps (state_at rec.old) (legs (net_in t.now) (state_at rec.old).kinds (event_of act (words_of objs.now)))) }
-{
-    let n = objs.len() / 4;
-    let mut done = 0;
-    let mut jumps = 0u32;
-    while done < n {
-        let o = words::wide(words::get_word(objs, done));
-        let k = words::wide(get_kind(rec, t, lay, o));
-        let inp = net_lookup::input(t, act, k);
-        let out = net_lookup::output(t, act, k) as u32;
-        jumps += move_object(rec, lay, o, inp, out);
-        done += 1;
+    // 25 to 27: the tests of the objects.
+    #[tactic(auto, using(crate::proofs::Asks::register_fits, crate::proofs::Asks::register_known, crate::proofs::Asks::few_objects, crate::proofs::Asks::register_words))]
+    fn test_objects(&self, rec: &[u8]) -> Result<(), ObjectError>
+        requires { Counted self.now rec.now }
+        ensures { object_answer_code result ≡ first (object_tests (net_in self.now.net.words.now) (state_at rec.now).kinds self.now.act (words_of self.now.objs.now)) }
+    {
+        let from = 4 * self.lay.register;
+        let to = 4 * self.lay.positions;
+        refuse_objects(self.objs, self.act, &rec[from..to], &self.net)
     }
-    add(rec, jumps_at(lay, act), jumps);
-}
 
-// An event to which none of 21 to 27 applies is carried out and counted.
-fn take_event(rec: &mut [u8], t: &NetWords, lay: Layout, act: usize, objs: &[u8])
-    requires { Moving t.now rec.old lay act (words_of objs.now) }
-    ensures { words_of rec.new ≡ record_words (table_in rec.old) (after_event (net_in t.now) (state_at rec.old) (event_of act (words_of objs.now))) }
-{
-    step_objects(rec, t, lay, act, objs);
-    add_one(rec, events_at(lay));
-    add_one(rec, fired_at(lay, act));
+    // 21 to 27: the first that applies.
+    #[tactic(auto, using(crate::proofs::Asks::closed_in, crate::proofs::Asks::events_in, crate::proofs::Asks::answer_closed, crate::proofs::Asks::answer_full, crate::proofs::Asks::answer_activity, crate::proofs::Asks::answer_number, crate::proofs::Asks::counted, crate::proofs::Asks::answer_objects))]
+    fn refuse(&self, rec: &[u8]) -> Result<(), EventError>
+        requires { Laid self.now rec.now }
+        ensures { event_answer_code result ≡ ask_code rec.now (ask_event self.now.act (words_of self.now.objs.now)) }
+    {
+        if words::get_word(rec, self.lay.closed_at()) != 0 {
+            return Err(EventError::Closed);
+        }
+        if 1000000 <= words::get_word(rec, self.lay.events_at()) {
+            return Err(EventError::Full);
+        }
+        if self.net.acts() <= self.act {
+            return Err(EventError::Activity);
+        }
+        if self.objs.len() / 4 != self.net.arcs(self.act) {
+            return Err(EventError::Number);
+        }
+        self.test_objects(rec)?;
+        Ok(())
+    }
+
+    // Every object jumps where it has to, and is moved; the activity's jumps are added once, behind the last object.
+    #[tactic(auto, using(crate::proofs::Steps::own_in, crate::proofs::Steps::step_start, crate::proofs::Steps::step_turn))]
+    fn step_objects(&self, rec: &mut [u8])
+        requires { Moving self.now rec.old }
+        ensures { words_of rec.new ≡ record_words (table_in rec.old) (after_legs (net_in self.now.net.words.now) act_jumps (state_at rec.old) (legs (net_in self.now.net.words.now) (state_at rec.old).kinds (event_of self.now.act (words_of self.now.objs.now)))) }
+    {
+        let mut jumps = 0u32;
+        for i in 0..self.objs.len() / 4 {
+            let o = words::wide(words::get_word(self.objs, i));
+            let k = words::wide(self.lay.get_kind(rec, self.net.words, o));
+            let inp = self.net.input(self.act, k);
+            let out = self.net.output(self.act, k) as u32;
+            jumps += move_object(rec, self.lay, o, inp, out);
+        }
+        add(rec, self.lay.jumps_at(self.act), jumps);
+    }
+
+    // The event, to which none of 21 to 27 applies, is carried out and counted.
+    #[tactic(auto, using(crate::proofs::Taken::can_take, crate::proofs::Taken::counts_few, crate::proofs::Taken::can_events, crate::proofs::Taken::can_fired, crate::proofs::Taken::event_counted, crate::proofs::Taken::event_bytes))]
+    fn take(&self, rec: &mut [u8])
+        requires laid { Laid self.now rec.old }
+        requires accepted { ask_code rec.old (ask_event self.now.act (words_of self.now.objs.now)) ≡ 0 }
+        ensures { rec.new ≡ ask_bytes rec.old (ask_event self.now.act (words_of self.now.objs.now)) }
+    {
+        self.step_objects(rec);
+        add(rec, self.lay.events_at(), 1);
+        add(rec, self.lay.fired_at(self.act), 1);
+    }
 }
 
 // Carries out an event to which none of 21 to 27 applies, as the caller has found; it is not tested again.
-pub fn apply(rec: &mut [u8], t: &NetWords, act: u32, objs: &[u8])
-    requires ready { Ready t.now rec.old }
-    requires accepted { ask_code rec.old (ask_event act (words_of objs.now)) ≡ 0 }
-    ensures { rec.new ≡ ask_bytes rec.old (ask_event act (words_of objs.now)) }
+#[tactic(auto, using(crate::proofs::Answered::has_head, crate::proofs::Answered::still_ready))]
+pub fn apply(trail: &mut TrailMut, act: u32, objs: &[u8])
+    requires accepted { ask_code trail.old.rec.now (ask_event act (words_of objs.now)) ≡ 0 }
+    ensures trail_after { trail.new.rec.now ≡ ask_bytes trail.old.rec.now (ask_event act (words_of objs.now)) }
+    ensures same_net { trail.new.net ≡ trail.old.net }
+    ensures same_bytes { trail.new.rec.ghost_name ≡ trail.old.rec.ghost_name }
 {
-    let lay = read_layout(rec, t);
-    take_event(rec, t, lay, act as usize, objs);
+    let net = trail.net;
+    let rec = &mut *trail.rec;
+    let lay = read_layout(rec, &net);
+    let act = act as usize;
+    Asked {
+        net,
+        lay,
+        act,
+        objs,
+    }
+    .take(rec);
 }
 
 // Puts an event to a trail: it is refused and nothing changes, or it is carried out in the record's bytes.
-pub fn event(rec: &mut [u8], t: &NetWords, act: u32, objs: &[u8]) -> EventAnswer
-    requires { Ready t.now rec.old }
-    ensures { (event_answer_code result ≡ ask_code rec.old (ask_event act (words_of objs.now))) × (rec.new ≡ ask_bytes rec.old (ask_event act (words_of objs.now))) }
+#[tactic(auto, using(crate::proofs::Answered::has_head, crate::proofs::Answered::still_ready))]
+pub fn event(trail: &mut TrailMut, act: u32, objs: &[u8]) -> Result<(), EventError>
+    ensures answer { event_answer_code result ≡ ask_code trail.old.rec.now (ask_event act (words_of objs.now)) }
+    ensures trail_after { trail.new.rec.now ≡ ask_bytes trail.old.rec.now (ask_event act (words_of objs.now)) }
+    ensures same_net { trail.new.net ≡ trail.old.net }
+    ensures same_bytes { trail.new.rec.ghost_name ≡ trail.old.rec.ghost_name }
 {
-    let lay = read_layout(rec, t);
-    let answer = refuse(rec, t, lay, act as usize, objs);
-    match answer {
-        EventAnswer::Taken => {
-            take_event(rec, t, lay, act as usize, objs);
-            EventAnswer::Taken
-        }
-        _ => answer,
-    }
+    let net = trail.net;
+    let rec = &mut *trail.rec;
+    let lay = read_layout(rec, &net);
+    let act = act as usize;
+    let asked = Asked {
+        net,
+        lay,
+        act,
+        objs,
+    };
+    asked.refuse(rec)?;
+    asked.take(rec);
+    Ok(())
 }

@@ -1,11 +1,12 @@
 -- A desk record as four-byte numbers: where each one stands, reading one, and writing one. Assumes nothing.
-use Prim.Native.Nat.{ℕ, zero, suc, ◌+◌, ◌*◌, ◌/◌, ◌≤◌, ◌<◌}
+use Prim.Native.Nat.{ℕ, zero, suc, ◌+◌, ◌-◌, ◌*◌, ◌/◌, ◌≤◌, ◌<◌}
 use mathlib.Core.Path.{◌≡◌, refl, ap, sym, ◌∙◌, subst}
 use mathlib.Core.List.{List, [], ◌∷◌, ◌++◌}
 use native.Mathlib.Omega.{arith}
 use native.Mathlib.Nat.{mul-le-mul}
 use lib.ListN.{length, get_or, set, take, drop, length-append, length-set, get_or-append}
 use lib.Seq.{get_or-append-add, set-append_left, get_or-drop}
+use Rattle.std.proofs.lemmas.List.{set-append_right}
 use Rattle.words.specs.Words.{word, words_of, bytes_of}
 use Rattle.words.proofs.Words.{length-words, bytes-of-words}
 use Rattle.net.specs.Net.{Net, Loaded}
@@ -66,11 +67,7 @@ past : (xs ys : List ℕ) (m i : ℕ) → m ≡ length xs + i → get_or (xs ++ 
 past xs ys m i e = rw e (get_or-append-add xs ys i 0)
 
 set_past : (xs ys : List ℕ) (m i v : ℕ) → m ≡ length xs + i → set (xs ++ ys) m v ≡ xs ++ set ys i v
-set_past [] ys m i v e = ap (λ (k : ℕ). set ys k v) (e ∙ omega arith)
-set_past (x ∷ xs) ys m i v e = ap (λ (k : ℕ). set (x ∷ (xs ++ ys)) k v) (step m (length xs + i) (omega arith)) ∙ ap (λ (r : List ℕ). x ∷ r) (set_past xs ys (length xs + i) i v refl)
-  where
-    step : (a b : ℕ) → a ≡ suc b → a ≡ suc b
-    step a b q = q
+set_past xs ys m i v e = set-append_right xs ys (length xs) m v refl (omega arith) ∙ ap (λ (k : ℕ). xs ++ set ys k v) {x = m - length xs} {y = i} (omega arith)
 
 -- four bodies behind the contents and the table
 abbrev front : ℕ → ℕ → ℕ → ℕ → ℕ → List ℕ

@@ -8,12 +8,13 @@
 ghost use Rattle.std.specs.Prelude.{◌≡◌, ◌+◌, ◌*◌, ◌/◌, ◌≤◌, ◌<◌, length, get_or};
 ghost use Rattle.words.specs.Words.{word, words_of};
 ghost use Rattle.words.specs.Put.{Put};
-ghost use Rattle.net.specs.Held.{net_in, Held};
+ghost use Rattle.net.specs.Held.{net_in};
 ghost use Rattle.replay.specs.Limits.{max_words, record_head};
 ghost use Rattle.replay.specs.Record.{counts_size};
 ghost use Rattle.replay_layout.specs.Offsets.{layout_of, kind_at, place_at, closed_at, events_at, closing_at, fired_at, jumps_at, pair_at};
 
 use net::NetWords;
+use net_lookup::LoadedNet;
 
 pub mod fresh;
 
@@ -57,107 +58,110 @@ fn quarter(rec: &[u8], at: usize) -> usize
 }
 
 // The layout that a record's contents give, with the number of places of its net.
-pub fn read_layout(rec: &[u8], t: &NetWords) -> Layout
-    requires held { Held t.now }
+#[tactic(auto, unfolding(crate::specs::Offsets::layout_of))]
+pub fn read_layout(rec: &[u8], net: &LoadedNet) -> Layout
     requires head_room { record_head ≤ length rec.now }
-    ensures { result ≡ layout_of (net_in t.now) rec.now }
+    ensures { result ≡ layout_of (net_in net.now.words.now) rec.now }
 {
     Layout {
         register: quarter(rec, 8),
         positions: quarter(rec, 16),
         counts: quarter(rec, 24),
         pairs: quarter(rec, 32),
-        objects: replay_rows::rows_in(words::wide(words::word_at(rec, 12)), t),
-        places: net_lookup::places(t),
+        objects: replay_rows::rows_in(words::wide(words::word_at(rec, 12)), net.words),
+        places: net.places(),
     }
 }
 
 // How many bytes the counts take.
-pub fn counts_bytes(t: &NetWords) -> usize
-    requires { Held t.now }
-    ensures { (result ≡ 4 * counts_size (net_in t.now)) × (result ≤ 524) }
+#[tactic(auto, using(crate::proofs::SizeLaws::few_acts))]
+pub fn counts_bytes(net: &LoadedNet) -> usize
+    ensures { (result ≡ 4 * counts_size (net_in net.now.words.now)) × (result ≤ 524) }
 {
-    let n = net_lookup::acts(t);
+    let n = net.acts();
     4 * (FIRED + 2 * n)
 }
 
 // How many bytes the jump counts of all pairs of places take.
-pub fn pairs_bytes(t: &NetWords) -> usize
-    requires { Held t.now }
-    ensures { (result ≡ 4 * ((net_in t.now).places * (net_in t.now).places)) × (result ≤ 16384) }
+#[tactic(auto, using(crate::proofs::SizeLaws::few_pairs))]
+pub fn pairs_bytes(net: &LoadedNet) -> usize
+    ensures { (result ≡ 4 * ((net_in net.now.words.now).places * (net_in net.now.words.now).places)) × (result ≤ 16384) }
 {
-    let n = net_lookup::places(t);
+    let n = net.places();
     4 * (n * n)
 }
 
-// The kind of object o. Rows are read and written as numbers behind their body's start: that is worked out once for all objects
-// of an event.
-pub fn get_kind(rec: &[u8], t: &NetWords, lay: Layout, o: usize) -> u32
-    requires { kind_at (net_in t.now) lay o < length (words_of rec.now) }
-    ensures { result ≡ get_or (words_of rec.now) (kind_at (net_in t.now) lay o) 0 }
-{
-    words::get_behind(rec, lay.register, replay_rows::kind_index(t, o))
-}
+// Each offset of the counts is a method of its own: with its constant as a parameter, `lay.count_at(EVENTS)` would be no plainer.
+impl Layout {
+    // The kind of object o. Rows are read and written as numbers behind their body's start: that is worked out once for all objects
+    // of an event.
+    pub fn get_kind(self, rec: &[u8], t: &NetWords, o: usize) -> u32
+        requires { kind_at (net_in t.now) self o < length (words_of rec.now) }
+        ensures { result ≡ get_or (words_of rec.now) (kind_at (net_in t.now) self o) 0 }
+    {
+        words::get_behind(rec, self.register, replay_rows::kind_index(t, o))
+    }
 
-// The place of object o.
-pub fn get_place(rec: &[u8], lay: Layout, o: usize) -> u32
-    requires { place_at lay o < length (words_of rec.now) }
-    ensures { result ≡ get_or (words_of rec.now) (place_at lay o) 0 }
-{
-    words::get_behind(rec, lay.positions, replay_rows::place_index(o))
-}
+    // The place of object o.
+    pub fn get_place(self, rec: &[u8], o: usize) -> u32
+        requires { place_at self o < length (words_of rec.now) }
+        ensures { result ≡ get_or (words_of rec.now) (place_at self o) 0 }
+    {
+        words::get_behind(rec, self.positions, replay_rows::place_index(o))
+    }
 
-// Place q becomes the place of object o; no other byte changes.
-pub fn put_place(rec: &mut [u8], lay: Layout, o: usize, q: u32)
-    requires { place_at lay o < length (words_of rec.old) }
-    ensures { Put rec.old (place_at lay o) q rec.new }
-{
-    words::put_behind(rec, lay.positions, replay_rows::place_index(o), q);
-}
+    // Place q becomes the place of object o; no other byte changes.
+    pub fn put_place(self, rec: &mut [u8], o: usize, q: u32)
+        requires { place_at self o < length (words_of rec.old) }
+        ensures { Put rec.old (place_at self o) q rec.new }
+    {
+        words::put_behind(rec, self.positions, replay_rows::place_index(o), q);
+    }
 
-// Where it stands whether the trail is closed.
-pub fn closed_at(lay: Layout) -> usize
-    ensures { result ≡ closed_at lay }
-{
-    lay.counts
-}
+    // Where it stands whether the trail is closed.
+    pub fn closed_at(self) -> usize
+        ensures { result ≡ closed_at self }
+    {
+        self.counts
+    }
 
-// Where the accepted events stand.
-pub fn events_at(lay: Layout) -> usize
-    requires { events_at lay ≤ max_words }
-    ensures { result ≡ events_at lay }
-{
-    lay.counts + EVENTS
-}
+    // Where the accepted events stand.
+    pub fn events_at(self) -> usize
+        requires { events_at self ≤ max_words }
+        ensures { result ≡ events_at self }
+    {
+        self.counts + EVENTS
+    }
 
-// Where the closing jumps stand.
-pub fn closing_at(lay: Layout) -> usize
-    requires { closing_at lay ≤ max_words }
-    ensures { result ≡ closing_at lay }
-{
-    lay.counts + CLOSING
-}
+    // Where the closing jumps stand.
+    pub fn closing_at(self) -> usize
+        requires { closing_at self ≤ max_words }
+        ensures { result ≡ closing_at self }
+    {
+        self.counts + CLOSING
+    }
 
-// Where FIRED of activity a stands.
-pub fn fired_at(lay: Layout, a: usize) -> usize
-    requires { fired_at lay a ≤ max_words }
-    ensures { result ≡ fired_at lay a }
-{
-    lay.counts + (FIRED + 2 * a)
-}
+    // Where FIRED of activity a stands.
+    pub fn fired_at(self, a: usize) -> usize
+        requires { fired_at self a ≤ max_words }
+        ensures { result ≡ fired_at self a }
+    {
+        self.counts + (FIRED + 2 * a)
+    }
 
-// Where JUMPS of activity a stands.
-pub fn jumps_at(lay: Layout, a: usize) -> usize
-    requires { jumps_at lay a ≤ max_words }
-    ensures { result ≡ jumps_at lay a }
-{
-    lay.counts + (JUMPS + 2 * a)
-}
+    // Where JUMPS of activity a stands.
+    pub fn jumps_at(self, a: usize) -> usize
+        requires { jumps_at self a ≤ max_words }
+        ensures { result ≡ jumps_at self a }
+    {
+        self.counts + (JUMPS + 2 * a)
+    }
 
-// Where the jump count from place x to place y stands, behind the start of the pairs.
-pub fn pair_index(lay: Layout, x: usize, y: usize) -> usize
-    requires { pair_at lay x y ≤ max_words }
-    ensures { lay.pairs + result ≡ pair_at lay x y }
-{
-    x * lay.places + y
+    // Where the jump count from place x to place y stands, behind the start of the pairs.
+    pub fn pair_index(self, x: usize, y: usize) -> usize
+        requires { pair_at self x y ≤ max_words }
+        ensures { self.pairs + result ≡ pair_at self x y }
+    {
+        x * self.places + y
+    }
 }

@@ -1,12 +1,11 @@
--- Two equal numbers among the first n of a list, by their indices. Assumes nothing.
-use Prim.Native.Nat.{ℕ, zero, suc, ◌≤◌, ◌<◌}
+-- Two equal numbers in a list, by their indices. Assumes nothing.
+use Prim.Native.Nat.{ℕ, zero, suc, ◌<◌}
 use mathlib.Core.Bool.{Bool, true, false}
-use mathlib.Core.Path.{◌≡◌, refl, sym, ◌∙◌}
+use mathlib.Core.Path.{◌≡◌, refl, sym}
 use mathlib.Core.List.{List, [], ◌∷◌}
 use native.Mathlib.Omega.{arith}
 use lib.Dec.{eqb}
-use lib.ListN.{length, get_or, take}
-use lib.Seq.{get_or-take, length-take-le}
+use lib.ListN.{length, get_or}
 use borrow.Author.Tests.{eq-eqb, ne_eqb}
 use Rattle.words.specs.Lists.{pick, has, twice}
 use Rattle.words.proofs.Lists.{All-of, any_false}
@@ -24,27 +23,19 @@ has-at x [] i h e = absurd (omega arith)
 has-at x (y ∷ xs) zero h e = rw (eq-eqb x y e)
 has-at x (y ∷ xs) (suc i) h e = rw (has-at x xs i (omega arith) e) (either_way (eqb x y))
 
-twice-at : (xs : List ℕ) (i j : ℕ) → i < length xs → j < i → get_or xs i 0 ≡ get_or xs j 0 → twice xs ≡ true
+pub twice-at : (xs : List ℕ) (i j : ℕ) → i < length xs → j < i → get_or xs i 0 ≡ get_or xs j 0 → twice xs ≡ true
 twice-at [] i j h l e = absurd (omega arith)
 twice-at (x ∷ xs) zero j h l e = absurd (omega arith)
 twice-at (x ∷ xs) (suc i) zero h l e = rw (has-at x xs i (omega arith) (sym e))
 twice-at (x ∷ xs) (suc i) (suc j) h l e = rw (twice-at xs i j (omega arith) (omega arith) e) (either_way (has x xs))
 
-twice-not : (xs : List ℕ) → Apart xs (length xs) → twice xs ≡ false
+pub twice-not : (xs : List ℕ) → Apart xs (length xs) → twice xs ≡ false
 twice-not [] f = refl
 twice-not (x ∷ xs) f =
     let n : has x xs ≡ false =
     any_false (eqb x) xs (All-of (λ (y : ℕ). eqb x y ≡ false) 0 xs (λ i h. ne_eqb x (get_or xs i 0) (λ e. f (suc i) (omega arith) 0 (omega arith) (sym e)))) in
     rw n (twice-not xs (λ a h b l e. f (suc a) (omega arith) (suc b) (omega arith) e))
 
-module _ (l : List ℕ) (n : ℕ) (fits : n ≤ length l) where
-  pub pair_found : (i j : ℕ) → i < n → j < i → get_or l i 0 ≡ get_or l j 0 → true ≡ twice (take n l)
-  pair_found i j h k e = sym (twice-at (take n l) i j (rw length-take-le h) k (get_or-take n l i 0 h ∙ e ∙ sym (get_or-take n l j 0 (omega arith))))
-
-  pub pair-none : Apart l n → false ≡ twice (take n l)
-  pair-none f = sym (twice-not (take n l)
-      (λ a h b k e. let w : a < n = rw length-take-le at h in f a w b k (sym (get_or-take n l a 0 w) ∙ e ∙ get_or-take n l b 0 (omega arith))))
-
--- what was found among the first m, where these are the first n
-pub among : (l : List ℕ) (n m : ℕ) (r : Bool) → n ≡ m → r ≡ twice (take m l) → r ≡ twice (take n l)
-among l n m r e h = rw e h
+-- fewer than two have no pair
+pub few_apart : (xs : List ℕ) → length xs < 2 → false ≡ twice xs
+few_apart xs h = sym (twice-not xs (λ a k b l e. omega arith))

@@ -1,78 +1,92 @@
 // The tests 25 to 27 of an event's objects, which an event on a trail and an event in a trail file share.
 
-ghost use Rattle.std.specs.Prelude.{not, ◌≡◌, ◌≤◌, ◌<◌, length};
+ghost use Rattle.std.specs.Prelude.{◌≡◌, ◌≤◌, ◌<◌, length, OnOk};
 ghost use Rattle.std.proofs.lemmas.List.Edits.{sets};
-ghost use Rattle.words.specs.Lists.{one};
 ghost use Rattle.words.specs.Refusals.{first};
 ghost use Rattle.words.specs.Words.{words_of};
-ghost use Rattle.net.specs.Held.{net_in, Held};
-ghost use Rattle.net.specs.Net.{takes};
+ghost use Rattle.net.specs.Held.{net_in};
 ghost use Rattle.replay.specs.Plain.{object_kinds, known_tests, object_tests};
 ghost use Rattle.replay.specs.Ready.{KnownKinds};
 ghost use Rattle.replay.specs.Register.{kinds_in};
+ghost use Rattle.replay_objects.specs.ObjectAnswers.{object_answer_code, object_error_code};
 
 use crate::kinds::two_of_kind;
-use net::NetWords;
-use net_lookup::takes_kind;
+use net_lookup::LoadedNet;
 use replay_rows::{kind, objects};
 use words::{get_word, wide};
 
-// 1 where the activity does not take kind k, else 0.
-fn foreign(t: &NetWords, act: usize, k: usize) -> u32
-    requires held { Held t.now }
-    requires known_act { (act < (net_in t.now).acts) × (k < (net_in t.now).kinds) }
-    ensures { (result ≡ one (not (takes (net_in t.now) act k))) × (result ≤ 1) }
-{
-    if takes_kind(t, act, k) {
-        return 0;
-    }
-    1
+// What is wrong with an event's objects. `object_error_code` gives document 01's number.
+#[derive(Clone, Copy)]
+pub enum ObjectError {
+    // 25: unknown object.
+    Object,
+    // 26: an object of a kind the activity does not take.
+    Kind,
+    // 27: two of the objects are of one kind.
+    TwoOfKind,
 }
 
-// 25, 26 or 0, by the objects, four bytes each: 25 of any of them before 26 of any. Where it is 0, their kinds are put into
+impl ObjectError {
+    // The number of a refusal.
+    pub fn number(self) -> u32
+        ensures { result ≡ object_error_code self }
+    {
+        match self {
+            ObjectError::Object => 25,
+            ObjectError::Kind => 26,
+            ObjectError::TwoOfKind => 27,
+        }
+    }
+}
+
+// 25 or 26, by the objects, four bytes each: 25 of any of them before 26 of any. Where neither applies, their kinds are put into
 // `kinds`.
 #[tactic(auto, using(crate::proofs::ObjectLaws::none_left))]
-fn take_kinds(objs: &[u8], act: usize, register: &[u8], t: &NetWords, kinds: &mut [u32; 8]) -> u32
-    requires held { Held t.now }
-    requires known_kinds { KnownKinds (net_in t.now) (kinds_in (net_in t.now) register.now) }
-    requires bounded { (length (words_of objs.now) ≤ 8) × (act < (net_in t.now).acts) }
-    ensures code { result ≡ first (known_tests (net_in t.now) (kinds_in (net_in t.now) register.now) act (words_of objs.now)) }
-    ensures kinds { result ≡ 0 → kinds.new ≡ sets kinds.old 0 (object_kinds (kinds_in (net_in t.now) register.now) (words_of objs.now)) }
+fn take_kinds(
+    objs: &[u8],
+    act: usize,
+    register: &[u8],
+    net: &LoadedNet,
+    kinds: &mut [u32; 8],
+) -> Result<(), ObjectError>
+    requires known_kinds { KnownKinds (net_in net.now.words.now) (kinds_in (net_in net.now.words.now) register.now) }
+    requires bounded { (length (words_of objs.now) ≤ 8) × (act < (net_in net.now.words.now).acts) }
+    ensures code { object_answer_code result ≡ first (known_tests (net_in net.now.words.now) (kinds_in (net_in net.now.words.now) register.now) act (words_of objs.now)) }
+    ensures kinds { OnOk result (kinds.new ≡ sets kinds.old 0 (object_kinds (kinds_in (net_in net.now.words.now) register.now) (words_of objs.now))) }
 {
-    let size = objects(register, t);
-    let n = objs.len() / 4;
-    let mut others = 0u32;
-    let mut i: usize = 0;
-    while i < n {
+    let size = objects(register, net.words);
+    let mut foreign = 0u32;
+    for i in 0..objs.len() / 4 {
         let o = wide(get_word(objs, i));
         if size <= o {
-            return 25;
+            return Err(ObjectError::Object);
         }
-        let k = kind(register, t, o);
+        let k = kind(register, net.words, o);
         kinds[i] = k;
-        others += foreign(t, act, wide(k));
-        i += 1;
+        // Counted: a flag that is set with `|=` takes an instruction more for each object.
+        foreign += u32::from(!net.takes_kind(act, wide(k)));
     }
-    if others != 0 {
-        return 26;
+    if foreign != 0 {
+        return Err(ObjectError::Kind);
     }
-    0
+    Ok(())
 }
 
-// 25, 26, 27 or 0, by an event's objects, four bytes each, and the register.
-pub fn refuse_objects(objs: &[u8], act: usize, register: &[u8], t: &NetWords) -> u32
-    requires held { Held t.now }
-    requires known_kinds { KnownKinds (net_in t.now) (kinds_in (net_in t.now) register.now) }
-    requires bounded { (length (words_of objs.now) ≤ 8) × (act < (net_in t.now).acts) }
-    ensures code { result ≡ first (object_tests (net_in t.now) (kinds_in (net_in t.now) register.now) act (words_of objs.now)) }
+// 25 to 27, by an event's objects, four bytes each, and the register.
+pub fn refuse_objects(
+    objs: &[u8],
+    act: usize,
+    register: &[u8],
+    net: &LoadedNet,
+) -> Result<(), ObjectError>
+    requires known_kinds { KnownKinds (net_in net.now.words.now) (kinds_in (net_in net.now.words.now) register.now) }
+    requires bounded { (length (words_of objs.now) ≤ 8) × (act < (net_in net.now.words.now).acts) }
+    ensures code { object_answer_code result ≡ first (object_tests (net_in net.now.words.now) (kinds_in (net_in net.now.words.now) register.now) act (words_of objs.now)) }
 {
     let mut kinds = [0u32; 8];
-    let code = take_kinds(objs, act, register, t, &mut kinds);
-    if code != 0 {
-        return code;
+    take_kinds(objs, act, register, net, &mut kinds)?;
+    if two_of_kind(&kinds[..objs.len() / 4]) {
+        return Err(ObjectError::TwoOfKind);
     }
-    if two_of_kind(&kinds, objs.len() / 4) {
-        return 27;
-    }
-    0
+    Ok(())
 }

@@ -2,46 +2,59 @@
 
 ghost use Rattle.std.specs.Prelude.{◌≡◌, ℕ, leb};
 ghost use Rattle.words.specs.Lists.{any};
-ghost use Rattle.net.specs.Held.{net_in, Held};
+ghost use Rattle.net.specs.Held.{net_in};
 ghost use Rattle.replay.specs.Plain.{register_code};
 ghost use Rattle.replay.specs.Register.{kinds_in};
+ghost use Rattle.replay_objects.specs.RegisterAnswers.{register_answer_code, register_error_code};
 
-use net::NetWords;
-use net_lookup::kinds;
+use net_lookup::LoadedNet;
 use replay_rows::{kind, objects};
 use words::wide;
 
+// What is wrong with a register. `register_error_code` gives document 01's number.
+#[derive(Clone, Copy)]
+pub enum RegisterError {
+    // 11: no object, or more than 1,024.
+    Number,
+    // 12: an object of unknown kind.
+    Kind,
+}
+
+impl RegisterError {
+    // The number of a refusal.
+    pub fn number(self) -> u32
+        ensures { result ≡ register_error_code self }
+    {
+        match self {
+            RegisterError::Number => 11,
+            RegisterError::Kind => 12,
+        }
+    }
+}
+
 // 12: an object of unknown kind.
-fn unknown_kind(register: &[u8], t: &NetWords) -> bool
-    requires { Held t.now }
-    ensures { result ≡ any (λ (k : ℕ). leb (net_in t.now).kinds k) (kinds_in (net_in t.now) register.now) }
+fn unknown_kind(register: &[u8], net: &LoadedNet) -> bool
+    ensures { result ≡ any (λ (k : ℕ). leb (net_in net.now.words.now).kinds k) (kinds_in (net_in net.now.words.now) register.now) }
 {
-    let n = objects(register, t);
-    let known = kinds(t);
-    let mut i = 0;
-    while i < n {
-        if known <= wide(kind(register, t, i)) {
+    let known = net.kinds();
+    for i in 0..objects(register, net.words) {
+        if known <= wide(kind(register, net.words, i)) {
             return true;
         }
-        i += 1;
     }
     false
 }
 
-// 11, 12 or 0, by a register's bytes.
-pub fn register_refusal(register: &[u8], t: &NetWords) -> u32
-    requires { Held t.now }
-    ensures { result ≡ register_code (net_in t.now) (kinds_in (net_in t.now) register.now) }
+// 11 or 12, by a register's bytes.
+pub fn register_refusal(register: &[u8], net: &LoadedNet) -> Result<(), RegisterError>
+    ensures { register_answer_code result ≡ register_code (net_in net.now.words.now) (kinds_in (net_in net.now.words.now) register.now) }
 {
-    let n = objects(register, t);
-    if n == 0 {
-        return 11;
+    let n = objects(register, net.words);
+    if n == 0 || 1024 < n {
+        return Err(RegisterError::Number);
     }
-    if 1024 < n {
-        return 11;
+    if unknown_kind(register, net) {
+        return Err(RegisterError::Kind);
     }
-    if unknown_kind(register, t) {
-        return 12;
-    }
-    0
+    Ok(())
 }

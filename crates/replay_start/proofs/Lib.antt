@@ -1,2 +1,3 @@
 pub mod Begun
+mod CopyLaws
 pub mod StartLaws

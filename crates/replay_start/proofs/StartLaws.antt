@@ -4,9 +4,9 @@ use mathlib.Core.Path.{◌≡◌, refl, ap, sym, subst, ◌∙◌}
 use mathlib.Core.List.{List, [], ◌∷◌, ◌++◌, map}
 use native.Mathlib.Omega.{arith}
 use native.Mathlib.Nat.{add-zero}
-use lib.ListN.{length, get_or, set, replicate, length-append, length-replicate, length-map}
+use lib.ListN.{length, get_or, set, take, drop, replicate, length-append, length-replicate, length-map}
 use lib.Dec.{ltb}
-use lib.Seq.{sets}
+use lib.Seq.{sets, length-take-le}
 use borrow.Author.Tests.{eq-eqb, ne_eqb, lt-ltb, le-ltb}
 use Rattle.words.specs.Lists.{pick, All, over}
 use Rattle.words.specs.Words.{words_of, bytes_of}
@@ -26,6 +26,9 @@ use Rattle.replay.specs.Register.{kinds_in, position_bytes}
 use Rattle.replay.specs.Calls.{start_record, start_code, start_bytes}
 use Rattle.replay_layout.specs.declared.Layout.{Layout}
 use Rattle.replay_layout.specs.Fresh.{Registered, fresh_bytes, fresh_layout}
+use Rattle.replay_objects.specs.declared.register.RegisterError.{RegisterError}
+use Rattle.replay_objects.specs.declared.register.RegisterError.TheVariants.{Number, Kind}
+use Rattle.replay_objects.specs.RegisterAnswers.{register_error_code}
 use Rattle.replay_start.specs.Startable.{Startable, contents_of}
 use Rattle.replay.proofs.Accepted.{registered}
 use Rattle.replay.proofs.Keep.{sound-start}
@@ -100,15 +103,34 @@ module _ (t table objects : List ℕ) (S : Startable t table objects) (ok : regi
   pub record-size : length (start_record table (kinds_in (net_of table) objects)) ≡ fresh_bytes (net_in t) (length table) objects
   record-size = record-size-of ∙ ap (λ (N : Net). fresh_bytes N (length table) objects) (sym S.tabled.net)
 
-  -- and how many numbers
-  pub words_size : (out : List ℕ) → length out ≡ length (start_record table (kinds_in (net_of table) objects))
-      → length (words_of out) ≡ head_words + length table / 4 + length (kinds_in (net_of table) objects) + length (kinds_in (net_of table) objects) + counts_size (net_in t) + (net_in t).places * (net_in t).places
-  words_size out e = let h : length table % 4 ≡ 0 = (table-size table S.tabled.taken).2 in omega (arith, length-words out, record-size, rows)
+  -- where the bodies stand, by the record's layout, bounds on them, and where the record ends
+  pub record Fits (l : Layout) : Type 0 where
+    pub register-at : l.register ≡ head_words + length table / 4
+    pub positions-at : l.positions ≡ l.register + l.objects
+    pub counts-at : l.counts ≡ l.positions + l.objects
+    pub end-at : 4 * (l.counts + counts_size (net_in t) + (net_in t).places * (net_in t).places) ≡ length (start_record table (kinds_in (net_of table) objects))
+    pub objects-are : l.objects ≡ length (kinds_in (net_of table) objects)
+    pub objects-bytes : length objects ≡ 4 * l.objects
+    pub objects-few : l.objects ≤ 1024
+    pub table-few : length table ≤ max_table
+
+  pub fits : (l : Layout) → l ≡ fresh_layout (net_in t) (length table / 4) objects → Fits l
+  fits l e =
+      let h : length table % 4 ≡ 0 = (table-size table S.tabled.taken).2 in
+      rw e (record {
+        register-at = refl;
+        positions-at = omega (arith, rows);
+        counts-at = omega arith;
+        end-at = omega (arith, record-size, rows);
+        objects-are = refl;
+        objects-bytes = sym rows;
+        objects-few = register-rows.few;
+        table-few = table-few;
+      })
 
   -- the numbers that starting stores, as one list
   module _ (w : List ℕ) (b c p : ℕ) (bs : b ≡ position_bytes (length (kinds_in (net_of table) objects))) (cs : c ≡ 4 * counts_size (net_in t)) (ps : p ≡ 4 * ((net_in t).places * (net_in t).places))
-      (size : length w ≡ head_words + length table / 4 + length (kinds_in (net_of table) objects) + length (kinds_in (net_of table) objects) + counts_size (net_in t) + (net_in t).places * (net_in t).places)
-      (l : Layout) (e : l ≡ fresh_layout (net_in t) (length table / 4) objects) where
+      (l : Layout) (f : Fits l) (size : 4 * length w ≡ length (start_record table (kinds_in (net_of table) objects))) where
     heads : contents_of (length table) (length objects) b c p ≡ contents table (begun table objects)
     heads = cc (
       rows,
@@ -127,11 +149,10 @@ module _ (t table objects : List ℕ) (S : Startable t table objects) (ok : regi
     pub stored : sets (sets (sets (sets (sets w 0 (contents_of (length table) (length objects) b c p)) head_words (words_of table)) l.register (kinds_in (net_of table) objects)) l.positions (map (net_in t).source (kinds_in (net_of table) objects)))
         l.counts (replicate (c / 4 + p / 4) 0) ≡ record_words table (begun table objects)
     stored =
-        let r = ap (λ (l : Layout). l.register) e in let q = ap (λ (l : Layout). l.positions) e in let n = ap (λ (l : Layout). l.counts) e in
         five w (contents_of (length table) (length objects) b c p) (words_of table) (kinds_in (net_of table) objects) (map (net_in t).source (kinds_in (net_of table) objects)) (replicate (c / 4 + p / 4) 0)
         head_words l.register l.positions l.counts
-        refl (omega (arith, r, length-words table)) (omega (arith, r, q, rows)) (omega (arith, q, n, length-map (kinds_in (net_of table) objects) (net_in t).source))
-        (omega (arith, n, rows, length-replicate {A = ℕ} (c / 4 + p / 4) 0))
+        refl (omega (arith, f, length-words table)) (omega (arith, f)) (omega (arith, f, length-map (kinds_in (net_of table) objects) (net_in t).source))
+        (omega (arith, f, size, length-replicate {A = ℕ} (c / 4 + p / 4) 0))
         ∙ cc (heads, tails, ap (λ (N : Net). map N.source (kinds_in (net_of table) objects)) S.tabled.net)
 
   -- bytes that hold them are the record
@@ -172,13 +193,34 @@ module _ (table objects lent : List ℕ) where
         let e : start_code table (kinds_in (net_of table) objects) (length lent) ≡ 0 = last-test ∙ rw (le-ltb (length lent) (length (start_record table (kinds_in (net_of table) objects))) h) in
         (sym e, rw (eq-eqb (start_code table (kinds_in (net_of table) objects) (length lent)) 0 e))
 
--- where 11 or 12 refuses the register it is the answer; a refused start leaves the bytes
-pub code_refused : (w table objects lent : List ℕ) → Startable w table objects → 0 < register_code (net_in w) (kinds_in (net_in w) objects)
-    → register_code (net_in w) (kinds_in (net_in w) objects) ≡ start_code table (kinds_in (net_in w) objects) (length lent)
-code_refused w table objects lent S h =
-    let code_is : register_code (net_in w) (kinds_in (net_in w) objects) ≡ register_code (net_of table) (kinds_in (net_in w) objects) = ap (λ (N : Net). register_code N (kinds_in (net_in w) objects)) S.tabled.net in
-    (register-refused table objects lent (register_code (net_in w) (kinds_in (net_in w) objects)) h code_is).0
+-- a register that is refused by 11 or 12, and one that is not: then the lent part is shorter than the record, or not
+module _ (w table objects lent : List ℕ) (S : Startable w table objects) where
+  of_table : register_code (net_in w) (kinds_in (net_in w) objects) ≡ register_code (net_of table) (kinds_in (net_of table) objects)
+  of_table = ap (λ (N : Net). register_code N (kinds_in N objects)) S.tabled.net
 
-pub bytes_left : (table ks lent : List ℕ) → 0 < start_code table ks (length lent) → lent ≡ start_bytes table ks lent
-unfolding start_bytes
-bytes_left table ks lent h = rw (ne_eqb (start_code table ks (length lent)) 0 (λ z. omega (arith, z)))
+  pub start-refused : (e : RegisterError) → register_error_code e ≡ register_code (net_in w) (kinds_in (net_in w) objects) → Answers table objects lent (register_error_code e) lent
+  start-refused = λ e h. register-refused table objects lent (register_error_code e) (some e) (h ∙ of_table)
+    where
+      some : (e : RegisterError) → 0 < register_error_code e
+      some Number = omega arith
+      some Kind = omega arith
+
+  module _ (ok : 0 ≡ register_code (net_in w) (kinds_in (net_in w) objects)) where
+    pub registered-start : register_code (net_of table) (kinds_in (net_of table) objects) ≡ 0
+    registered-start = sym (ok ∙ of_table)
+
+    pub bounded : (length table ≤ max_table) × Registered (net_in w) objects
+    bounded = (table-few w table objects S registered-start, register-rows w table objects S registered-start)
+
+    module _ (size : ℕ) (e : size ≡ fresh_bytes (net_in w) (length table) objects) where
+      is-size : size ≡ length (start_record table (kinds_in (net_of table) objects))
+      is-size = e ∙ sym (record-size w table objects S registered-start)
+
+      pub start-shorter : length lent < size → Answers table objects lent 61 lent
+      start-shorter h = no_room table objects lent registered-start (omega (arith, is-size))
+
+      pub exact-room : size ≤ length lent → length (take size lent) ≡ length (start_record table (kinds_in (net_of table) objects))
+      exact-room h = length-take-le size lent h ∙ is-size
+
+      pub start-taken : (record_bytes : List ℕ) → size ≤ length lent → record_bytes ≡ start_record table (kinds_in (net_of table) objects) → Answers table objects lent 0 (record_bytes ++ drop size lent)
+      start-taken r h q = rw (q, is-size) (taken table objects lent registered-start (omega (arith, is-size)))

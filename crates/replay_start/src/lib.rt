@@ -8,30 +8,41 @@ ghost use Rattle.std.specs.Prelude.{◌≡◌, map, ℕ, ◌+◌, ◌<◌, ◌�
 ghost use Rattle.std.proofs.lemmas.List.Edits.{sets};
 ghost use Rattle.words.specs.Lists.{All};
 ghost use Rattle.words.specs.Words.{words_of};
-ghost use Rattle.net.specs.Held.{net_in, Held};
+ghost use Rattle.net.specs.Held.{net_in};
 ghost use Rattle.net.specs.Table.{net_of};
 ghost use Rattle.replay.specs.Limits.{head_words};
 ghost use Rattle.replay.specs.Plain.{register_code};
 ghost use Rattle.replay.specs.Calls.{start_record, start_code, start_bytes};
-ghost use Rattle.replay_start.specs.StartAnswers.{start_answer_code};
+ghost use Rattle.replay_objects.specs.RegisterAnswers.{register_error_code};
+ghost use Rattle.replay_start.specs.StartAnswers.{start_error_code, start_answer_code};
 ghost use Rattle.replay.specs.Register.{kinds_in};
 ghost use Rattle.replay_layout.specs.Offsets.{place_at};
 ghost use Rattle.replay_start.specs.Startable.{Startable, contents_of};
 
-use net::NetWords;
-use replay_layout::{HEAD, HEAD_WORDS, Layout, fresh, put_place};
-use replay_objects::register::register_refusal;
+use net_lookup::LoadedNet;
+use replay_layout::{HEAD, HEAD_WORDS, Layout, fresh};
+use replay_objects::register::{RegisterError, register_refusal};
 
-// The answer to starting. `start_answer_code` gives document 01's number.
-#[derive(Drop)]
-pub enum StartAnswer {
-    Taken,
+// Why starting is refused. `start_error_code` gives document 01's number.
+#[derive(Clone, Copy)]
+pub enum StartError {
     // 11: no objects or over 1,024.
     Number,
     // 12: unknown kind.
     Kind,
     // 61: the lent part is shorter than the record.
     NoRoom,
+}
+
+impl From<RegisterError> for StartError {
+    ghost from_gives = { λ r e. start_error_code e ≡ register_error_code r };
+
+    fn from(error: RegisterError) -> StartError {
+        match error {
+            RegisterError::Number => StartError::Number,
+            RegisterError::Kind => StartError::Kind,
+        }
+    }
 }
 
 // A contents pair, from number i on.
@@ -72,38 +83,29 @@ fn copy_words(s: &[u8], out: &mut [u8], base: usize)
     requires { base + length (words_of s.now) ≤ length (words_of out.old) }
     ensures { words_of out.new ≡ sets (words_of out.old) base (words_of s.now) }
 {
-    let n = s.len() / 4;
-    let mut i = 0;
-    while i < n {
-        words::put_word(out, base + i, words::get_word(s, i));
-        i += 1;
-    }
+    let n = 4 * (s.len() / 4);
+    out[4 * base..4 * base + n].copy_from_slice(&s[..n]);
 }
 
 // Object o's row of the positions: it stands on its kind's source.
-fn put_source(t: &NetWords, objects: &[u8], out: &mut [u8], lay: Layout, o: usize)
-    requires held { Held t.now }
-    requires known_kinds { All (λ (k : ℕ). k < (net_in t.now).kinds) (kinds_in (net_in t.now) objects.now) }
-    requires known_object { (o < length (kinds_in (net_in t.now) objects.now)) × (place_at lay o < length (words_of out.old)) }
-    ensures { words_of out.new ≡ set (words_of out.old) (place_at lay o) (get_or (map (net_in t.now).source (kinds_in (net_in t.now) objects.now)) o 0) }
+fn put_source(net: &LoadedNet, objects: &[u8], out: &mut [u8], lay: Layout, o: usize)
+    requires known_kinds { All (λ (k : ℕ). k < (net_in net.now.words.now).kinds) (kinds_in (net_in net.now.words.now) objects.now) }
+    requires known_object { (o < length (kinds_in (net_in net.now.words.now) objects.now)) × (place_at lay o < length (words_of out.old)) }
+    ensures { words_of out.new ≡ set (words_of out.old) (place_at lay o) (get_or (map (net_in net.now.words.now).source (kinds_in (net_in net.now.words.now) objects.now)) o 0) }
 {
-    let k = words::wide(replay_rows::kind(objects, t, o));
-    let q = net_lookup::source(t, k);
-    put_place(out, lay, o, q as u32);
+    let k = words::wide(replay_rows::kind(objects, net.words, o));
+    let q = net.source(k);
+    lay.put_place(out, o, q as u32);
 }
 
 // The positions: each object stands on its kind's source.
-fn put_sources(t: &NetWords, objects: &[u8], out: &mut [u8], lay: Layout)
-    requires held { Held t.now }
-    requires known_kinds { All (λ (k : ℕ). k < (net_in t.now).kinds) (kinds_in (net_in t.now) objects.now) }
-    requires room { place_at lay (length (kinds_in (net_in t.now) objects.now)) ≤ length (words_of out.old) }
-    ensures { words_of out.new ≡ sets (words_of out.old) lay.positions (map (net_in t.now).source (kinds_in (net_in t.now) objects.now)) }
+fn put_sources(net: &LoadedNet, objects: &[u8], out: &mut [u8], lay: Layout)
+    requires known_kinds { All (λ (k : ℕ). k < (net_in net.now.words.now).kinds) (kinds_in (net_in net.now.words.now) objects.now) }
+    requires room { place_at lay (length (kinds_in (net_in net.now.words.now) objects.now)) ≤ length (words_of out.old) }
+    ensures { words_of out.new ≡ sets (words_of out.old) lay.positions (map (net_in net.now.words.now).source (kinds_in (net_in net.now.words.now) objects.now)) }
 {
-    let n = replay_rows::objects(objects, t);
-    let mut o = 0;
-    while o < n {
-        put_source(t, objects, out, lay, o);
-        o += 1;
+    for o in 0..replay_rows::objects(objects, net.words) {
+        put_source(net, objects, out, lay, o);
     }
 }
 
@@ -112,60 +114,44 @@ fn put_zeros(out: &mut [u8], base: usize, n: usize)
     requires { base + n ≤ length (words_of out.old) }
     ensures { words_of out.new ≡ sets (words_of out.old) base (replicate n 0) }
 {
-    let mut i = 0;
-    while i < n {
-        words::put_word(out, base + i, 0);
-        i += 1;
-    }
+    out[4 * base..4 * (base + n)].fill(0);
 }
 
 // The record, into bytes that have just room for it.
-fn fill(t: &NetWords, table: &[u8], objects: &[u8], out: &mut [u8])
-    requires startable { Startable t.now table.now objects.now }
-    requires registered { register_code (net_of table.now) (kinds_in (net_in t.now) objects.now) ≡ 0 }
-    requires exact { length out.old ≡ length (start_record table.now (kinds_in (net_in t.now) objects.now)) }
-    ensures { out.new ≡ start_record table.now (kinds_in (net_in t.now) objects.now) }
+fn fill(net: &LoadedNet, table: &[u8], objects: &[u8], out: &mut [u8])
+    requires startable { Startable net.now.words.now table.now objects.now }
+    requires registered { register_code (net_of table.now) (kinds_in (net_in net.now.words.now) objects.now) ≡ 0 }
+    requires exact { length out.old ≡ length (start_record table.now (kinds_in (net_in net.now.words.now) objects.now)) }
+    ensures { out.new ≡ start_record table.now (kinds_in (net_in net.now.words.now) objects.now) }
 {
-    let counts = replay_layout::counts_bytes(t);
-    let pairs = replay_layout::pairs_bytes(t);
-    let lay = fresh::layout(t, table.len() / 4, objects);
+    let counts = replay_layout::counts_bytes(net);
+    let pairs = replay_layout::pairs_bytes(net);
+    let lay = fresh::layout(net, table.len() / 4, objects);
     let positions = replay_rows::position_bytes(lay.objects);
     put_contents(out, table.len(), objects.len(), positions, counts, pairs);
     copy_words(table, out, HEAD_WORDS);
     copy_words(objects, out, lay.register);
-    put_sources(t, objects, out, lay);
+    put_sources(net, objects, out, lay);
     put_zeros(out, lay.counts, counts / 4 + pairs / 4);
 }
 
-// Starting with a register to which neither 11 nor 12 applies.
-fn write_start(t: &NetWords, table: &[u8], objects: &[u8], rec: &mut [u8]) -> StartAnswer
-    requires startable { Startable t.now table.now objects.now }
-    requires registered { register_code (net_of table.now) (kinds_in (net_in t.now) objects.now) ≡ 0 }
-    ensures code { start_answer_code result ≡ start_code table.now (kinds_in (net_in t.now) objects.now) (length rec.old) }
-    ensures rec_after { rec.new ≡ start_bytes table.now (kinds_in (net_in t.now) objects.now) rec.old }
-{
-    let size = fresh::record_bytes(t, table.len(), objects);
-    if rec.len() < size {
-        return StartAnswer::NoRoom;
-    }
-    fill(t, table, objects, &mut rec[..size]);
-    StartAnswer::Taken
-}
-
-// Starts a trail: its record in front of the lent bytes. `table` is the table file whose net `t` holds, `objects` the
+// Starts a trail: its record in front of the lent bytes. `table` is the table file whose net `net` holds, `objects` the
 // register, the kind of each object. Where it is refused no byte changes.
-#[tactic(auto, using(crate::proofs::StartLaws::code_refused, crate::proofs::StartLaws::bytes_left))]
-pub fn start(t: &NetWords, table: &[u8], objects: &[u8], rec: &mut [u8]) -> StartAnswer
-    requires { Startable t.now table.now objects.now }
-    ensures code { start_answer_code result ≡ start_code table.now (kinds_in (net_in t.now) objects.now) (length rec.old) }
-    ensures rec_after { rec.new ≡ start_bytes table.now (kinds_in (net_in t.now) objects.now) rec.old }
+pub fn start(
+    net: &LoadedNet,
+    table: &[u8],
+    objects: &[u8],
+    rec: &mut [u8],
+) -> Result<(), StartError>
+    requires { Startable net.now.words.now table.now objects.now }
+    ensures code { start_answer_code result ≡ start_code table.now (kinds_in (net_in net.now.words.now) objects.now) (length rec.old) }
+    ensures rec_after { rec.new ≡ start_bytes table.now (kinds_in (net_in net.now.words.now) objects.now) rec.old }
 {
-    let code = register_refusal(objects, t);
-    if code == 11 {
-        return StartAnswer::Number;
+    register_refusal(objects, net)?;
+    let size = fresh::record_bytes(net, table.len(), objects);
+    if rec.len() < size {
+        return Err(StartError::NoRoom);
     }
-    if code == 12 {
-        return StartAnswer::Kind;
-    }
-    write_start(t, table, objects, rec)
+    fill(net, table, objects, &mut rec[..size]);
+    Ok(())
 }

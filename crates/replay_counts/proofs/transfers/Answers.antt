@@ -1,46 +1,29 @@
--- An activity more; past the last, what the close took is added. Assumes nothing.
-use Prim.Native.Nat.{ℕ, ◌+◌, ◌*◌}
-use mathlib.Core.Path.{◌≡◌, refl, ap, ap₂, sym, ◌∙◌}
-use native.Mathlib.Omega.{arith}
+-- MOVED of each activity, and what the close took. Assumes nothing.
+use Prim.Native.Nat.{ℕ, ◌+◌, ◌*◌, ◌≤◌}
+use mathlib.Core.Path.{ap₂, sym, ◌∙◌}
 use native.Mathlib.Nat.{mul-le-mul}
-use Rattle.words.specs.Lists.{sum_to}
-use Rattle.net.specs.Held.{net_in}
-use Rattle.replay.specs.State.{stored_moved}
-use Rattle.replay.specs.Calls.{state_at}
+use native.Mathlib.Omega.{arith}
+use Rattle.std.proofs.Common.{rules}
 use Rattle.replay.proofs.Accepted.{closers-length}
-use Rattle.replay_counts.proofs.CountLaws.{sum_step, moved-sum-few}
+use Rattle.replay.specs.Calls.{state_at}
+use Rattle.replay_counts.proofs.CountLaws.{moves, moves-few, one_is, one_le}
+use Rattle.replay_counts.proofs.SumLaws.{sum_is, sum_fits}
 use Rattle.replay_counts.proofs.transfers.Goals as goal
 
-pub loop-a-init : goal.loop-a-init
-loop-a-init c = (c.acts-n.ensures, omega arith, refl)
-
-pub overflow_add-sum : goal.overflow_add-sum
-overflow_add-sum c =
-    let a = c.args in
-    let p = c.requires in
-    let l = c.loop-a in
-    omega (arith, moved-sum-few a.t.now a.rec.now p l.a (omega (arith, l.invariant.0, l.invariant.1)), l.invariant.2, c.moved-sum.ensures.1)
-
-pub loop-a-preserved : goal.loop-a-preserved
-loop-a-preserved c =
-    let a = c.args in
-    let p = c.requires in
-    let l = c.loop-a in
-    (l.invariant.0, omega (arith, c.loop-a-test.true), sum_step l.a (λ (i : ℕ). stored_moved (net_in a.t.now) (state_at a.rec.now) i) l.invariant.2 c.moved-sum.ensures.0)
-
-pub overflow_mul-removed : goal.overflow_mul-removed
-overflow_mul-removed c = omega (arith, mul-le-mul c.closed.ensures.1 c.objects.ensures.1)
+pub sum-sum-requires-clause-fits : goal.sum-sum-requires-clause-fits
+sum-sum-requires-clause-fits c =
+    let h = moves c.args.trail.now in
+    sum_fits h c.map.ensures.source c.acts.ensures c.map.ensures.closure (λ x r q k. search rules) _ (omega (arith, moves-few c.args.trail.now))
 
 pub overflow_add-result : goal.overflow_add-result
 overflow_add-result c =
-    let a = c.args in
-    let p = c.requires in
-    let l = c.loop-a in
-    omega (arith, moved-sum-few a.t.now a.rec.now p l.a (omega (arith, l.invariant.0, l.invariant.1)), l.invariant.2, mul-le-mul c.closed.ensures.1 c.objects.ensures.1)
+    let h = moves c.args.trail.now in
+    let e = sum_is h c.map.ensures.source c.acts.ensures c.map.ensures.closure (λ x r q k. search rules) _ c.sum-sum.ensures.ran in
+    let k : c.from.result ≤ 1 = rw (c.from.ensures, one_is) (one_le c.closed.result) in
+    omega (arith, e, moves-few c.args.trail.now, mul-le-mul k c.objects.ensures.1)
 
 pub returns : goal.returns
 returns c =
-    let a = c.args in
-    let l = c.loop-a in
-    let e : l.a ≡ (net_in a.t.now).acts = omega (arith, l.invariant.0, l.invariant.1, c.loop-a-test.false) in
-    ap₂ (λ (s j : ℕ). s + j) (l.invariant.2 ∙ ap (λ (k : ℕ). sum_to k (λ (i : ℕ). stored_moved (net_in a.t.now) (state_at a.rec.now) i)) e) (ap₂ (λ (s j : ℕ). s * j) c.closed.ensures.0 (c.objects.ensures.0 ∙ sym (closers-length (state_at a.rec.now).kinds)))
+    let h = moves c.args.trail.now in
+    let e = sum_is h c.map.ensures.source c.acts.ensures c.map.ensures.closure (λ x r q k. search rules) _ c.sum-sum.ensures.ran in
+    ap₂ (λ (s j : ℕ). s + j) e (ap₂ (λ (s j : ℕ). s * j) (c.from.ensures ∙ one_is c.closed.result ∙ c.closed.ensures) (c.objects.ensures.0 ∙ sym (closers-length (state_at c.args.trail.now.rec.now).kinds)))

@@ -1,5 +1,4 @@
--- What is left to store after i objects. Assumes nothing.
-use Prim.Native.Nat.{◌-◌, ◌≤◌}
+-- What is left to store after o objects. Assumes nothing.
 use mathlib.Core.Path.{◌≡◌}
 use lib.ListN.{length, drop}
 use lib.Seq.{sets}
@@ -11,7 +10,4 @@ use Rattle.replay_layout.specs.Offsets.{place_at}
 use Rattle.replay_start.proofs.put_sources.Given as goal
 
 abbrev pub invariant-loop-o : goal.invariant-loop-o
-invariant-loop-o l = (l.n ≡ length (kinds_in (net_in l.t) l.objects)) × (l.o ≤ l.n) × (length l.out ≡ length l.initial.out) × (sets (words_of l.out) (place_at l.lay l.o) (drop l.o (map (net_in l.t).source (kinds_in (net_in l.t) l.objects))) ≡ sets (words_of l.initial.out) l.lay.positions (map (net_in l.t).source (kinds_in (net_in l.t) l.objects)))
-
-abbrev pub decreases-loop-o : goal.decreases-loop-o
-decreases-loop-o l = l.n - l.o
+invariant-loop-o l = (length l.out ≡ length l.initial.out) × (sets (words_of l.out) (place_at l.lay l.o) (drop l.o (map (net_in l.net.words.now).source (kinds_in (net_in l.net.words.now) l.objects))) ≡ sets (words_of l.initial.out) l.lay.positions (map (net_in l.net.words.now).source (kinds_in (net_in l.net.words.now) l.objects)))

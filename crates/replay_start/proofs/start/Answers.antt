@@ -1,20 +1,31 @@
 -- Each return by the tests passed on the way. Assumes nothing.
-use mathlib.Core.Path.{◌≡◌, ap, ◌∙◌}
-use native.Mathlib.Omega.{arith}
-use Rattle.net.specs.Net.{Net}
-use Rattle.net.specs.Table.{net_of}
-use Rattle.net.specs.Held.{net_in}
-use Rattle.replay.specs.Register.{kinds_in}
-use Rattle.replay.specs.Plain.{register_code}
-use Rattle.replay.proofs.Registers.{register-taken}
-use borrow.Author.Rules.{rules}
+use Rattle.std.proofs.lemmas.Result.{err_from_is_err_and}
+use Rattle.replay_start.proofs.StartLaws.{start-refused, registered-start, bounded, start-shorter, exact-room, start-taken}
 use Rattle.replay_start.proofs.start.Goals as goal
 
-pub write_start-requires : goal.write_start-requires
-write_start-requires c =
-    let code_is : c.register_refusal-code.result ≡ register_code (net_of c.args.table.now) (kinds_in (net_in c.args.t.now) c.args.objects.now) = c.register_refusal-code.ensures ∙ ap (λ (N : Net). register_code N (kinds_in (net_in c.args.t.now) c.args.objects.now)) c.requires.tabled.net in
-    let a = c.args in
-    record { startable = c.requires; registered = register-taken (net_of a.table.now) (kinds_in (net_in a.t.now) a.objects.now) (λ e. omega (arith, code_is, e)) (λ e. omega (arith, code_is, e)) }
+pub returns-in_err-register_refusal : goal.returns-in_err-register_refusal
+returns-in_err-register_refusal c =
+    let a = c.args in let p = err_from_is_err_and c.from_residual.result c.from_residual.ensures.1 in
+    let r = start-refused a.net.now.words.now a.table.now a.objects.now a.rec.now c.requires c.in_err-register_refusal.field-0.0 c.in_err-register_refusal.ensures in
+    record { code = rw (p.1, p.2) r.0; rec_after = r.1 }
+
+pub record_bytes-size-requires : goal.record_bytes-size-requires
+record_bytes-size-requires c = let a = c.args in record { bounded = bounded a.net.now.words.now a.table.now a.objects.now a.rec.now c.requires c.in_ok-register_refusal.ensures }
+
+pub returns-then-rec-size : goal.returns-then-rec-size
+returns-then-rec-size c =
+    let a = c.args in let r = start-shorter a.net.now.words.now a.table.now a.objects.now a.rec.now c.requires c.in_ok-register_refusal.ensures c.record_bytes-size.result c.record_bytes-size.ensures c.if-rec-size.true in
+    record { code = r.0; rec_after = r.1 }
+
+pub fill-requires : goal.fill-requires
+fill-requires c =
+    let a = c.args in record {
+      startable = c.requires;
+      registered = registered-start a.net.now.words.now a.table.now a.objects.now a.rec.now c.requires c.in_ok-register_refusal.ensures;
+      exact = exact-room a.net.now.words.now a.table.now a.objects.now a.rec.now c.requires c.in_ok-register_refusal.ensures c.record_bytes-size.result c.record_bytes-size.ensures c.if-rec-size.false;
+    }
 
 pub returns : goal.returns
-returns c = record { code = search rules; rec_after = search rules }
+returns c =
+    let a = c.args in let r = start-taken a.net.now.words.now a.table.now a.objects.now a.rec.now c.requires c.in_ok-register_refusal.ensures c.record_bytes-size.result c.record_bytes-size.ensures c.fill.new.out c.if-rec-size.false c.fill.ensures in
+    record { code = r.0; rec_after = r.1 }

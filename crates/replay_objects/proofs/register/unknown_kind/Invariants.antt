@@ -1,5 +1,5 @@
 -- What is left to search after i objects. Assumes nothing.
-use Prim.Native.Nat.{ℕ, ◌-◌, ◌≤◌}
+use Prim.Native.Nat.{ℕ}
 use mathlib.Core.Path.{◌≡◌}
 use lib.Dec.{leb}
 use lib.ListN.{drop}
@@ -9,8 +9,4 @@ use Rattle.replay.specs.Register.{kinds_in}
 use Rattle.replay_objects.proofs.register.unknown_kind.Given as goal
 
 abbrev pub invariant-loop-i : goal.invariant-loop-i
-invariant-loop-i l =
-    (l.i ≤ l.n) × (any (λ (k : ℕ). leb (net_in l.t).kinds k) (drop l.i (kinds_in (net_in l.t) l.register)) ≡ any (λ (k : ℕ). leb (net_in l.t).kinds k) (kinds_in (net_in l.t) l.register))
-
-abbrev pub decreases-loop-i : goal.decreases-loop-i
-decreases-loop-i l = l.n - l.i
+invariant-loop-i l = any (λ (k : ℕ). leb (net_in l.net.words.now).kinds k) (drop l.i (kinds_in (net_in l.net.words.now) l.register)) ≡ any (λ (k : ℕ). leb (net_in l.net.words.now).kinds k) (kinds_in (net_in l.net.words.now) l.register)

@@ -1,0 +1,2 @@
+pub mod ObjectAnswers
+pub mod RegisterAnswers
