@@ -10,7 +10,7 @@ use lib.Dec.{eqb}
 use borrow.Author.Tests.{eqb-true, eq-eqb}
 use Rattle.words.specs.Lists.{pick}
 use Rattle.words.specs.Words.{word, words_at, bytes_of, bodies_from, ends_at}
-use Rattle.words.specs.declared.Bodies.TheVariants.{Gap}
+use Rattle.std.specs.Prelude.{None}
 use Rattle.words.proofs.Lists.{clash}
 use Rattle.words.proofs.Words.{length-words, words_take, words-read, bytes-of-words}
 use Rattle.replay.specs.State.{evens, odds}
@@ -27,7 +27,7 @@ unfolding bodies_from
 ends-at b zero i at e h = eqb-true at e h
 ends-at b (suc n) i at e h = let p = go (eqb (word b i) at) h in (eqb-true _ _ p.0, ends-at b n (i + 8) (at + word b (i + 4)) e p.1)
   where
-    go : (t : Bool) → ends_at e (pick t (bodies_from b (i + 8) (at + word b (i + 4)) n) Gap) ≡ true → (t ≡ true) × (ends_at e (bodies_from b (i + 8) (at + word b (i + 4)) n) ≡ true)
+    go : (t : Bool) → ends_at e (pick t (bodies_from b (i + 8) (at + word b (i + 4)) n) None) ≡ true → (t ≡ true) × (ends_at e (bodies_from b (i + 8) (at + word b (i + 4)) n) ≡ true)
     go true h = (refl, h)
     go false h = clash (sym h)
 

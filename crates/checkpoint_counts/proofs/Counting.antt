@@ -1,14 +1,14 @@
 -- Test 46 in the numbers that the bodies hold, one part after another. Assumes nothing.
-use Prim.Native.Nat.{ℕ, ◌+◌, ◌*◌, ◌≤◌, ◌<◌}
+use Prim.Native.Nat.{ℕ, ◌+◌, ◌*◌}
 use mathlib.Core.Bool.{Bool, true, false, not}
-use mathlib.Core.Path.{◌≡◌, ap, ap₂, ◌∙◌}
+use mathlib.Core.Path.{◌≡◌, refl, ap, ap₂, ◌∙◌}
 use mathlib.Core.List.{List, [], ◌∷◌}
 use native.Mathlib.Omega.{arith}
 use lib.ListN.{length, get_or, drop}
 use lib.Seq.{get_or-drop}
 use lib.Dec.{ltb, eqb}
-use borrow.Author.Tests.{eq-eqb, ne_eqb, lt-ltb, le-ltb, ltb-false}
-use Rattle.words.specs.Lists.{either, any_to, sum_to, both}
+use borrow.Author.Tests.{eq-eqb, ltb-false}
+use Rattle.words.specs.Lists.{pick, either, any_to, sum_to, both}
 use Rattle.words.specs.Words.{words_of}
 use Rattle.words.proofs.Lists.{any_none, is_eq}
 use Rattle.words.proofs.Refusals.{None}
@@ -36,6 +36,14 @@ jumps_at cs a = let e : 3 + (2 * a + 1) ≡ 4 + 2 * a = omega arith in odds-at (
 hit-none : (ts : List (Bool × ℕ)) → hit ts ≡ false → None ts
 hit-none ts e = any_none (λ (t : Bool × ℕ). t.0) (λ (t : Bool × ℕ). t.0 ≡ false) (λ t q. q) ts e
 
+-- tests one behind the other, as they are written and as they are listed
+or-chain : (p q r s t : Bool) → pick (pick (pick (pick p true q) true r) true s) true t ≡ pick p true (pick q true (pick r true (pick s true t)))
+or-chain true q r s t = refl
+or-chain false true r s t = refl
+or-chain false false true s t = refl
+or-chain false false false true t = refl
+or-chain false false false false t = refl
+
 -- 46, of a register and a counts body of `size` bytes; W is the body's numbers
 module _ (N : Net) (ks cs : List ℕ) (size : ℕ) where
   abbrev W : ℕ → ℕ
@@ -56,27 +64,12 @@ module _ (N : Net) (ks cs : List ℕ) (size : ℕ) where
   above-is : any_to N.acts (λ (a : ℕ). ltb (get_or (evens (drop 3 (words_of cs))) a 0 * length (N.arcs a)) (get_or (odds (drop 3 (words_of cs))) a 0)) ≡ above
   above-is = any_same N.acts _ _ (λ a h. ap₂ (λ (x y : ℕ). ltb (x * length (N.arcs a)) y) (fired-at (words_of cs) a) (jumps_at (words_of cs) a))
 
-  pub counts-size : (size ≡ 4 * counts_size N → ⊥) → true ≡ answer
-  counts-size n = rw (ne_eqb size (4 * counts_size N) n)
-
-  module _ (e : size ≡ 4 * counts_size N) where
-    pub counts-flag : 1 < W 0 → true ≡ answer
-    counts-flag h = rw (eq-eqb size (4 * counts_size N) e, lt-ltb 1 (W 0) h)
-
-    module _ (f : W 0 ≤ 1) where
-      pub counts-events : 1000000 < W 1 → true ≡ answer
-      counts-events h = rw (eq-eqb size (4 * counts_size N) e, le-ltb 1 (W 0) f, lt-ltb 1000000 (W 1) h)
-
-      module _ (g : W 1 ≤ 1000000) where
-        pub counts-fired : (fired ≡ W 1 → ⊥) → true ≡ answer
-        counts-fired n = rw (eq-eqb size (4 * counts_size N) e, le-ltb 1 (W 0) f, le-ltb 1000000 (W 1) g, fired-is, ne_eqb fired (W 1) n)
-
-        module _ (s : fired ≡ W 1) where
-          pub counts-above : above ≡ true → true ≡ answer
-          counts-above t = rw (eq-eqb size (4 * counts_size N) e, le-ltb 1 (W 0) f, le-ltb 1000000 (W 1) g, fired-is, eq-eqb fired (W 1) s, above-is, t)
-
-          pub counts-closing : above ≡ false → either (ltb (length (closers (kinds_in N ks))) (W 2) ∷ both (eqb (W 0) 0) (not (eqb (W 2) 0)) ∷ []) ≡ answer
-          counts-closing t = rw (eq-eqb size (4 * counts_size N) e, le-ltb 1 (W 0) f, le-ltb 1000000 (W 1) g, fired-is, eq-eqb fired (W 1) s, above-is, t)
+  -- where the length is right, the other tests decide
+  pub counts-hit : size ≡ 4 * counts_size N
+      → pick (pick (pick (pick (ltb 1 (W 0)) true (ltb 1000000 (W 1))) true (not (eqb fired (W 1)))) true above) true
+      (either (ltb (length (closers (kinds_in N ks))) (W 2) ∷ both (eqb (W 0) 0) (not (eqb (W 2) 0)) ∷ []))
+      ≡ answer
+  counts-hit e = rw (eq-eqb size (4 * counts_size N) e, fired-is, above-is) (or-chain (ltb 1 (W 0)) (ltb 1000000 (W 1)) (not (eqb fired (W 1))) above _)
 
 -- a register to which 44 does not apply, with counts to which 46 does not
 pub counted : (N : Net) (ks cs : List ℕ) → register_code N (kinds_in N ks) ≡ 0 → hit (tests46 N (body_state N ks [] cs []) (length cs)) ≡ false → Counted N ks cs

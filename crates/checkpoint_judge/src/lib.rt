@@ -4,16 +4,18 @@
 
 #![tactic(auto)]
 
-ghost use Rattle.std.specs.Prelude.{◌≡◌};
-ghost use Rattle.net.specs.Held.{net_in, Held};
+ghost use Rattle.std.specs.Prelude.{◌≡◌, true};
+ghost use Rattle.net.specs.Held.{net_in};
+ghost use Rattle.replay.specs.Plain.{register_code};
+ghost use Rattle.replay.specs.Register.{whole_rows, kinds_in};
 ghost use Rattle.checkpoint.specs.Answers.{restore_answer_code, restore_answer_second};
 ghost use Rattle.checkpoint_judge.specs.Judge.{closed_by, judge_code, judge_second};
 
 use checkpoint::RestoreAnswer;
 use checkpoint_counts::bad_counts;
-use checkpoint_jumps::bad_jumps;
+use checkpoint_jumps::CountedBodies;
 use checkpoint_positions::bad_positions;
-use net::NetWords;
+use net_lookup::LoadedNet;
 use replay_objects::register::register_refusal;
 use replay_rows::whole;
 
@@ -27,27 +29,46 @@ fn begins_closed(cs: &[u8]) -> bool
     words::word_at(cs, 0) == 1
 }
 
-// The register's bytes, then those of positions, counts and jumps.
-pub fn judge(ks: &[u8], ps: &[u8], cs: &[u8], js: &[u8], t: &NetWords) -> RestoreAnswer
-    requires { Held t.now }
-    ensures code { restore_answer_code result ≡ judge_code (net_in t.now) ks.now ps.now cs.now js.now }
-    ensures second { restore_answer_second result ≡ judge_second (net_in t.now) ks.now ps.now cs.now js.now }
+// 45 to 47, of a register to which 44 does not apply.
+fn judge_bodies<'a>(
+    ks: &'a [u8],
+    ps: &[u8],
+    cs: &'a [u8],
+    js: &[u8],
+    net: &LoadedNet<'a>,
+) -> RestoreAnswer
+    requires whole { whole_rows (net_in net.now.words.now) ks.now ≡ true }
+    requires registered { register_code (net_in net.now.words.now) (kinds_in (net_in net.now.words.now) ks.now) ≡ 0 }
+    ensures code { restore_answer_code result ≡ judge_code (net_in net.now.words.now) ks.now ps.now cs.now js.now }
+    ensures second { restore_answer_second result ≡ judge_second (net_in net.now.words.now) ks.now ps.now cs.now js.now }
 {
-    if !whole(ks, t) {
-        return RestoreAnswer::Objects(0);
-    }
-    let n = register_refusal(ks, t);
-    if n != 0 {
-        return RestoreAnswer::Objects(n);
-    }
-    if bad_positions(ks, ps, t, begins_closed(cs)) {
+    if bad_positions(ks, ps, net, begins_closed(cs)) {
         return RestoreAnswer::Positions;
     }
-    if bad_counts(ks, cs, t) {
+    if bad_counts(ks, cs, net) {
         return RestoreAnswer::Counts;
     }
-    if bad_jumps(ks, cs, js, t) {
+    let counted = CountedBodies {
+        net: *net,
+        register: ks,
+        counts: cs,
+    };
+    if counted.bad_jumps(js) {
         return RestoreAnswer::Jumps;
     }
     RestoreAnswer::Taken
+}
+
+// The register's bytes, then those of positions, counts and jumps.
+pub fn judge(ks: &[u8], ps: &[u8], cs: &[u8], js: &[u8], net: &LoadedNet) -> RestoreAnswer
+    ensures code { restore_answer_code result ≡ judge_code (net_in net.now.words.now) ks.now ps.now cs.now js.now }
+    ensures second { restore_answer_second result ≡ judge_second (net_in net.now.words.now) ks.now ps.now cs.now js.now }
+{
+    if !whole(ks, net.words) {
+        return RestoreAnswer::Objects(0);
+    }
+    match register_refusal(ks, net) {
+        Ok(()) => judge_bodies(ks, ps, cs, js, net),
+        Err(refused) => RestoreAnswer::Objects(refused.number()),
+    }
 }

@@ -1,28 +1,30 @@
 -- Rows of sums: what is added to them, and how large they grow. Assumes nothing.
-use Prim.Native.Nat.{ℕ, suc, ◌+◌, ◌*◌, ◌≤◌, ◌<◌}
+use Prim.Native.Nat.{ℕ, zero, suc, ◌+◌, ◌*◌, ◌≤◌, ◌<◌}
 use mathlib.Core.Bool.{Bool, true, false}
 use mathlib.Core.Path.{◌≡◌, refl, ap, sym, ◌∙◌}
 use mathlib.Core.List.{List}
 use native.Mathlib.Omega.{arith}
 use native.Mathlib.Decide.{ℕ_discrete}
-use native.Mathlib.Nat.{suc-mul, mul-le-mul_right}
-use lib.ListN.{length, get_or, set, replicate, length-set, length-replicate}
+use native.Mathlib.Nat.{suc-mul}
+use native.Mathlib.Numerals.{add-one}
+use Rattle.std.specs.List.{sum}
+use Rattle.std.proofs.lemmas.List.Sums.{sum_by_more}
+use lib.ListN.{length, get_or, set, take, replicate, length-set, length-replicate}
 use lib.Seq.{get_or-set_same, get_or-set_other}
-use Rattle.words.specs.Lists.{pick}
+use Rattle.words.specs.Lists.{pick, sum_to}
 use Rattle.words.proofs.Lists.{zeros-at}
 use Rattle.checkpoint_jumps.specs.Sums.{AtMost, Added}
-
--- a pair's index
-pub pair-in : (n x y : ℕ) → x < n → y < n → x * n + y < n * n
-pair-in n x y hx hy = let m : suc x * n ≤ n * n = mul-le-mul_right n hx in omega (arith, suc-mul x n)
 
 pub pick-le : (b : Bool) (v : ℕ) → pick b 0 v ≤ v
 pick-le true v = omega arith
 pick-le false v = omega arith
 
--- 64 zeros
+-- 64 zeros, and sums that began with them
 pub zeros-most : (n m : ℕ) → AtMost n m (replicate 64 0)
 zeros-most n m = record { size = length-replicate {A = ℕ} 64 0; at = λ q h. omega (arith, zeros-at 64 q) }
+
+pub zeros-added : (n : ℕ) (row : List ℕ) (f : ℕ → ℕ) → Added n (replicate 64 0) row f → (q : ℕ) → q < n → get_or row q 0 ≡ f q
+zeros-added n row f A q h = omega (arith, A.at q h, zeros-at 64 q)
 
 module _ {n : ℕ} {a b : List ℕ} {f : ℕ → ℕ} where
   pub added-same : {g : ℕ → ℕ} → Added n a b f → ((q : ℕ) → q < n → f q ≡ g q) → Added n a b g
@@ -45,6 +47,20 @@ module _ (n : ℕ) (row : List ℕ) (p d v : ℕ) (f : ℕ → ℕ) where
       go : (q : ℕ) → Dec (q ≡ p) → get_or (set row p v) q 0 ≡ get_or row q 0 + f q
       go q (yes i) = rw i (get_or-set_same row p v 0 h ∙ omega arith)
       go q (no n) = get_or-set_other row p q v 0 n ∙ omega (arith, other q n)
+
+-- the first n sums together
+sum-most : (n m : ℕ) (f : ℕ → ℕ) → ((q : ℕ) → q < n → f q ≤ m) → sum_to n f ≤ n * m
+sum-most zero m f h = omega arith
+sum-most (suc n) m f h = omega (arith, suc-mul n m, h n (omega arith), sum-most n m f (λ q l. h q (omega arith)))
+
+pub sum-take : (row : List ℕ) (n : ℕ) → n ≤ length row → sum (take n row) ≡ sum_to n (λ (q : ℕ). get_or row q 0)
+sum-take row zero h = refl
+sum-take row (suc n) h =
+    ap (λ (k : ℕ). sum (take k row)) (sym (add-one n))
+    ∙ omega (arith, sum_by_more (λ (x : ℕ). x) row n 0 h, sum-take row n (omega arith))
+
+pub sum-fits : {n m : ℕ} {row : List ℕ} → AtMost n m row → n ≤ 64 → sum (take n row) ≤ n * m
+sum-fits {n} {m} {row} M h = omega (arith, sum-take row n (omega (arith, M.size)), sum-most n m (λ (q : ℕ). get_or row q 0) M.at)
 
 -- A pass over a row of 64, of which the sums below y are done: each has f more than before, and is at most m.
 pub record Pass (before row : List ℕ) (f : ℕ → ℕ) (m y : ℕ) : Type 0 where

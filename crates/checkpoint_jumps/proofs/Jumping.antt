@@ -1,14 +1,14 @@
 -- Test 47 in the numbers that the bodies hold, one part after another. Assumes nothing.
 use Prim.Native.Nat.{ℕ, ◌+◌, ◌*◌, ◌<◌}
 use mathlib.Core.Bool.{Bool, true, false, not}
-use mathlib.Core.Path.{◌≡◌, refl, ap, sym, ◌∙◌}
+use mathlib.Core.Path.{◌≡◌, refl, ap, ap₂, sym, ◌∙◌}
 use mathlib.Core.List.{List, []}
 use native.Mathlib.Omega.{arith}
 use native.Mathlib.Decide.{ℕ_discrete}
-use lib.ListN.{get_or, drop}
+use lib.ListN.{get_or, drop, replicate}
 use lib.Dec.{ltb, eqb}
 use borrow.Author.Tests.{eq-eqb, ne_eqb}
-use Rattle.words.specs.Lists.{any_to, sum_to, both}
+use Rattle.words.specs.Lists.{pick, any_to, sum_to, both}
 use Rattle.words.specs.Words.{words_of}
 use Rattle.words.proofs.Lists.{any_to-none, any_to-false, is_eq, not_eqb, both_false, both-then}
 use Rattle.words.proofs.Sums.{sum_to-same}
@@ -19,9 +19,10 @@ use Rattle.replay.specs.Register.{kinds_in}
 use Rattle.replay.specs.State.{inputs, sunk_on, stored_consumed, odds}
 use Rattle.checkpoint.specs.Bodies.{body_state, hit}
 use Rattle.checkpoint.specs.Restore.{apart, tests47}
-use Rattle.checkpoint_counts.proofs.Searches.{same_false}
+use Rattle.checkpoint_counts.proofs.Searches.{same_false, any_same}
 use Rattle.checkpoint_counts.proofs.Counting.{fired-at, jumps_at}
-use Rattle.checkpoint_jumps.specs.Sums.{pair_in, foreign_in, barred_in}
+use Rattle.checkpoint_jumps.specs.Sums.{pair_in, foreign_in, barred_in, Added}
+use Rattle.checkpoint_jumps.proofs.Adding.{zeros-added}
 use Rattle.checkpoint_jumps.proofs.Totals.{sum-none, none-sum, any_sum, sum-columns}
 
 module _ (N : Net) (js : List ℕ) where
@@ -53,16 +54,23 @@ module _ (N : Net) (js : List ℕ) where
   barred-is : any_to N.places (λ (x : ℕ). any_to N.places (bad x)) ≡ not (eqb (sum_to N.places (barred_in N js)) 0)
   barred-is = any_sum N.places (λ (x : ℕ). any_to N.places (bad x)) (barred_in N js) row-clear
 
--- TAKEN of place q
-pub consumed-is : (N : Net) (ks cs : List ℕ) (q : ℕ)
-    → sum_to N.acts (λ (a : ℕ). get_or (words_of cs) (3 + 2 * a) 0 * inputs N q a) + get_or (words_of cs) 0 0 * sunk_on N (closer_kinds (kinds_in N ks)) q ≡ stored_consumed N (body_state N ks [] cs []) q
-consumed-is N ks cs q = ap (λ (n : ℕ). n + get_or (words_of cs) 0 0 * sunk_on N (closer_kinds (kinds_in N ks)) q) (sum_to-same N.acts _ _ (λ a h. ap (λ (v : ℕ). v * inputs N q a) (sym (fired-at (words_of cs) a))))
+-- TAKEN of each place, as summed: what the events take, then what the close takes
+module _ (N : Net) (ks cs row taken : List ℕ) where
+  taken-is : Added N.places (replicate 64 0) row (λ (q : ℕ). sum_to N.acts (λ (a : ℕ). get_or (words_of cs) (3 + 2 * a) 0 * inputs N q a))
+      → Added N.places row taken (λ (q : ℕ). get_or (words_of cs) 0 0 * sunk_on N (closer_kinds (kinds_in N ks)) q)
+      → (q : ℕ) → q < N.places → get_or taken q 0 ≡ stored_consumed N (body_state N ks [] cs []) q
+  taken-is A B q h =
+      B.at q h
+      ∙ ap (λ (n : ℕ). n + get_or (words_of cs) 0 0 * sunk_on N (closer_kinds (kinds_in N ks)) q)
+      (zeros-added N.places row _ A q h ∙ sum_to-same N.acts _ _ (λ a l. ap (λ (v : ℕ). v * inputs N q a) (sym (fired-at (words_of cs) a))))
+
+  pub taken-above : Added N.places (replicate 64 0) row (λ (q : ℕ). sum_to N.acts (λ (a : ℕ). get_or (words_of cs) (3 + 2 * a) 0 * inputs N q a))
+      → Added N.places row taken (λ (q : ℕ). get_or (words_of cs) 0 0 * sunk_on N (closer_kinds (kinds_in N ks)) q)
+      → (into : List ℕ) → any_to N.places (λ (q : ℕ). ltb (get_or taken q 0) (get_or into q 0)) ≡ any_to N.places (λ (q : ℕ). ltb (stored_consumed N (body_state N ks [] cs []) q) (get_or into q 0))
+  taken-above A B into = any_same N.places _ _ (λ q h. ap (λ (v : ℕ). ltb v (get_or into q 0)) (taken-is A B q h))
 
 -- 47, of a register, a counts body and a jumps body of `size` bytes
 module _ (N : Net) (ks cs js : List ℕ) (size : ℕ) where
-  abbrev answer : Bool
-  answer = hit (tests47 N (body_state N ks [] cs js) size)
-
   abbrev jumps : ℕ
   jumps = sum_to N.acts (λ (a : ℕ). get_or (words_of cs) (4 + 2 * a) 0) + get_or (words_of cs) 2 0
 
@@ -76,18 +84,15 @@ module _ (N : Net) (ks cs js : List ℕ) (size : ℕ) where
   sum_is : sum_to (N.places * N.places) (λ (i : ℕ). get_or (words_of js) i 0) ≡ sum_to N.places into
   sum_is = sum-columns N.places N.places (λ (i : ℕ). get_or (words_of js) i 0)
 
-  pub jumps-size : (size ≡ 4 * (N.places * N.places) → ⊥) → true ≡ answer
-  jumps-size n = rw (ne_eqb size (4 * (N.places * N.places)) n)
-
-  module _ (e : size ≡ 4 * (N.places * N.places)) where
-    pub jumps-barred : (sum_to N.places (barred_in N js) ≡ 0 → ⊥) → true ≡ answer
-    jumps-barred n = rw (eq-eqb size (4 * (N.places * N.places)) e, barred-is N js, ne_eqb (sum_to N.places (barred_in N js)) 0 n)
-
-    module _ (z : sum_to N.places (barred_in N js) ≡ 0) where
-      pub jumps-sum : (sum_to N.places into ≡ jumps → ⊥) → true ≡ answer
-      jumps-sum n = rw (eq-eqb size (4 * (N.places * N.places)) e, barred-is N js, eq-eqb (sum_to N.places (barred_in N js)) 0 z, sum_is, jumps-is, ne_eqb (sum_to N.places into) jumps n)
-
-      pub jumps-above : sum_to N.places into ≡ jumps → any_to N.places (λ (q : ℕ). ltb (stored_consumed N (body_state N ks [] cs []) q) (into q)) ≡ answer
-      jumps-above s =
-          rw (eq-eqb size (4 * (N.places * N.places)) e, barred-is N js, eq-eqb (sum_to N.places (barred_in N js)) 0 z, sum_is, jumps-is, eq-eqb (sum_to N.places into) jumps s)
-          (either-one _)
+  -- where the length is right, the other tests decide; `row` has IN of each place
+  pub jumps-hit : (row : List ℕ) (n a : ℕ) → n ≡ N.places → a ≡ N.acts → Added N.places (replicate 64 0) row into → size ≡ 4 * (N.places * N.places)
+      → pick (not (eqb (sum_to N.places (barred_in N js)) 0)) true
+      (pick (not (eqb (sum_to n (λ (q : ℕ). get_or row q 0)) (sum_to a (λ (b : ℕ). get_or (words_of cs) (4 + 2 * b) 0) + get_or (words_of cs) 2 0))) true
+      (any_to N.places (λ (q : ℕ). ltb (stored_consumed N (body_state N ks [] cs []) q) (get_or row q 0))))
+      ≡ hit (tests47 N (body_state N ks [] cs js) size)
+  jumps-hit row n a p t A e =
+      let r : (q : ℕ) → q < N.places → get_or row q 0 ≡ into q = zeros-added N.places row into A in
+      ap₂ (λ (s : ℕ) (b : Bool). pick (not (eqb (sum_to N.places (barred_in N js)) 0)) true (pick (not (eqb s (sum_to a (λ (b : ℕ). get_or (words_of cs) (4 + 2 * b) 0) + get_or (words_of cs) 2 0))) true b))
+      (ap (λ (m : ℕ). sum_to m (λ (q : ℕ). get_or row q 0)) p ∙ sum_to-same N.places _ _ r)
+      (any_same N.places _ _ (λ q h. ap (λ (v : ℕ). ltb (stored_consumed N (body_state N ks [] cs []) q) v) (r q h)) ∙ either-one _)
+      ∙ rw (t, eq-eqb size (4 * (N.places * N.places)) e, barred-is N js, sum_is, jumps-is)

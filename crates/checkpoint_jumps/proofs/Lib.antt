@@ -2,3 +2,4 @@ mod Totals
 mod Adding
 mod Taking
 mod Jumping
+mod Bounds

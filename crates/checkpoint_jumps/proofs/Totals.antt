@@ -1,11 +1,13 @@
 -- Sums and searches below a number. Assumes nothing.
 use Prim.Native.Nat.{ℕ, zero, suc, ◌+◌, ◌*◌, ◌<◌}
 use mathlib.Core.Bool.{Bool, not}
-use mathlib.Core.Path.{◌≡◌, ap, sym, ◌∙◌}
+use mathlib.Core.Path.{◌≡◌, refl, ap, sym, ◌∙◌}
+use mathlib.Core.List.{List, [], ◌∷◌}
 use native.Mathlib.Omega.{arith}
 use native.Mathlib.Nat.{zero-mul, suc-mul}
 use lib.Dec.{eqb}
-use Rattle.words.specs.Lists.{any_to, sum_to}
+use lib.ListN.{length, get_or}
+use Rattle.words.specs.Lists.{any_to, total, sum_to}
 use Rattle.words.proofs.Lists.{is_eq, not_eqb, any_to-none, any_to-false}
 use Rattle.words.proofs.Sums.{sum_to-same, sum_to-zero, sum_to-add, sum_to-append, term-le}
 use Rattle.checkpoint_counts.proofs.Searches.{same_false}
@@ -34,3 +36,14 @@ sum_rows (suc n) m f = rw suc-mul (sum_to-append m (n * m) f ∙ ap (λ (s : ℕ
 -- a square, summed by columns
 pub sum-columns : (n m : ℕ) (f : ℕ → ℕ) → sum_to (n * m) f ≡ sum_to m (λ (y : ℕ). sum_to n (λ (x : ℕ). f (x * m + y)))
 sum-columns n m f = sum_rows n m f ∙ sum-swap n m (λ (x y : ℕ). f (x * m + y))
+
+-- a total over a list, by index
+pub sum-total : (w : ℕ → ℕ) (xs : List ℕ) → sum_to (length xs) (λ (o : ℕ). w (get_or xs o 0)) ≡ total w xs
+sum-total w [] = refl
+sum-total w (x ∷ xs) =
+    ap (λ (n : ℕ). sum_to n (λ (o : ℕ). w (get_or (x ∷ xs) o 0))) (one-plus (length xs))
+    ∙ sum_to-append (length xs) 1 (λ (o : ℕ). w (get_or (x ∷ xs) o 0))
+    ∙ omega (arith, sum-total w xs, sum_to-same (length xs) (λ (o : ℕ). w (get_or (x ∷ xs) (1 + o) 0)) (λ (o : ℕ). w (get_or xs o 0)) (λ o h. ap (λ (i : ℕ). w (get_or (x ∷ xs) i 0)) (sym (one-plus o))))
+  where
+    one-plus : (n : ℕ) → suc n ≡ 1 + n
+    one-plus n = omega arith

@@ -1,7 +1,7 @@
 -- A record's bodies as parts of its bytes, and its number by theirs. Assumes nothing.
 use Prim.Native.Nat.{ℕ, ◌+◌, ◌-◌, ◌*◌, ◌/◌, ◌%◌, ◌≤◌, ◌<◌}
 use mathlib.Core.Bool.{Bool, true, false, not}
-use mathlib.Core.Path.{◌≡◌, refl, ap, ap₂, sym, ◌∙◌}
+use mathlib.Core.Path.{◌≡◌, refl, ap, ap₂, sym, subst, ◌∙◌}
 use mathlib.Core.List.{List, [], ◌∷◌, ◌++◌}
 use native.Mathlib.Omega.{arith}
 use native.Mathlib.Decide.{dec_le}
@@ -15,6 +15,9 @@ use Rattle.words.specs.Words.{word, words_of, bodies_of, ends_at}
 use Rattle.words.proofs.Lists.{is_eq}
 use Rattle.words.proofs.Refusals.{first_then, first-stays}
 use Rattle.net.specs.Net.{Net}
+use Rattle.net.specs.declared.LoadError.{LoadError}
+use Rattle.net.specs.Answer.{load_error_code}
+use Rattle.net.proofs.Numbers.{not_taken}
 use Rattle.net.specs.Table.{load_code}
 use Rattle.net.specs.Held.{loaded_words, net_in}
 use Rattle.net.proofs.HeldLaws.{loaded-tabled}
@@ -177,6 +180,25 @@ module _ (b : List ℕ) (F : Framed b) where
   pub table-refused : (load_code (table_in b) ≡ 0 → ⊥) → (43 ≡ restore_code b) × (load_code (table_in b) ≡ restore_second b)
   unfolding restore_second
   table-refused n = (table-code n, rw (← table-code n))
+
+  -- the part that is loaded is the table: where it is refused, and where the words w got its net
+  module _ (end : ℕ) (e : end ≡ word b 4) where
+    part-is : take (record_head + end - record_head) (drop record_head b) ≡ table_in b
+    part-is =
+        let l : record_head + end - record_head ≡ word b 4 = omega (arith, e) in
+        ap (λ (n : ℕ). take n (drop record_head b)) l ∙ sym table-part
+
+    pub part_refused : (r : LoadError) (n : ℕ) → load_error_code r ≡ load_code (take (record_head + end - record_head) (drop record_head b)) → n ≡ load_error_code r
+        → (43 ≡ restore_code b) × (n ≡ restore_second b)
+    part_refused r n h q =
+        let code = h ∙ ap load_code part-is in
+        let t = table-refused (λ z. not_taken r (code ∙ z)) in
+        (t.0, q ∙ code ∙ t.1)
+
+    pub part_opened : (w : List ℕ) → 0 ≡ load_code (take (record_head + end - record_head) (drop record_head b))
+        → (load_code (take (record_head + end - record_head) (drop record_head b)) ≡ 0 → w ≡ loaded_words (take (record_head + end - record_head) (drop record_head b)))
+        → Opened b w
+    part_opened w z h = subst (Opened b) (sym (h (sym z) ∙ ap loaded_words part-is)) (opened (sym (z ∙ ap load_code part-is)))
 
 -- the parts that the code cuts out are the bodies
 module _ (b w : List ℕ) (O : Opened b w) where

@@ -14,12 +14,13 @@ ghost use Rattle.net.specs.Limits.{net_words};
 use checkpoint::{RestoreAnswer, Saved};
 use checkpoint_judge::judge;
 use net::{NET_WORDS, NetWords};
+use net_lookup::LoadedNet;
 use replay_layout::{BODIES, HEAD, MAX_RECORD};
 use words::wide;
 
 // 44 to 47, of a record whose table is loaded.
-fn check_bodies(rec: &[u8], t: &NetWords) -> RestoreAnswer
-    requires { Opened rec.now t.now }
+fn check_bodies(rec: &[u8], net: &LoadedNet) -> RestoreAnswer
+    requires { Opened rec.now net.now.words.now }
     ensures code { restore_answer_code result ≡ restore_code rec.now }
     ensures second { restore_answer_second result ≡ restore_second rec.now }
 {
@@ -27,7 +28,7 @@ fn check_bodies(rec: &[u8], t: &NetWords) -> RestoreAnswer
     let p = wide(words::word_at(rec, 16));
     let c = wide(words::word_at(rec, 24));
     let j = wide(words::word_at(rec, 32));
-    judge(&rec[k..p], &rec[p..c], &rec[c..j], &rec[j..], t)
+    judge(&rec[k..p], &rec[p..c], &rec[c..j], &rec[j..], net)
 }
 
 // 43 to 47, of a record whose contents are laid out.
@@ -39,11 +40,13 @@ fn check_table(rec: &[u8], t: &mut NetWords) -> RestoreAnswer
     ensures opened { restore_code rec.now ≡ 0 → Opened rec.now t.new }
 {
     let end = HEAD + wide(words::word_at(rec, 4));
-    let n = net::code(net_loader::load_fresh(&rec[HEAD..end], t));
-    if n != 0 {
-        return RestoreAnswer::Table(n);
+    match net_loader::load_fresh(&rec[HEAD..end], t) {
+        Ok(()) => {
+            let net = LoadedNet { words: t };
+            check_bodies(rec, &net)
+        }
+        Err(refused) => RestoreAnswer::Table(refused.number()),
     }
-    check_bodies(rec, t)
 }
 
 // Checks a record, any bytes. The words t, all zero, are work space; where the record is taken, they hold its net.

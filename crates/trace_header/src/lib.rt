@@ -6,11 +6,12 @@
 
 ghost use Rattle.std.specs.Prelude.{◌≡◌, ◌-◌, ◌≤◌, length, take, drop};
 ghost use Rattle.words.specs.Refusals.{first};
-ghost use Rattle.net.specs.Held.{net_in, Held};
+ghost use Rattle.net.specs.Held.{net_in};
 ghost use Rattle.replay.specs.Register.{kinds_in};
 ghost use Rattle.trace_header.specs.Opening.{contents_tests, contents_of, contents_code, open_code, trace_code};
 
 use net::NetWords;
+use net_lookup::LoadedNet;
 use replay_objects::register::register_refusal;
 use replay_rows::{most_bytes, whole_body};
 use words::{wide, word_at};
@@ -50,43 +51,43 @@ pub fn read_contents(head: &[u8], t: &NetWords) -> Contents
 // 71, 11, 12 or 0 for a file whose contents are not broken. Its register claims `claimed` bytes; `there` counts the bytes behind
 // the contents, all or up to as many as are claimed; `held` is the register's bytes, where they are all there and at most
 // as many as the longest register has. A longer one is counted and not held.
-pub fn opening_refusal(claimed: usize, there: usize, held: &[u8], t: &NetWords) -> u32
-    requires { Held t.now }
-    ensures { result ≡ open_code (net_in t.now) claimed there (kinds_in (net_in t.now) held.now) }
+pub fn opening_refusal(claimed: usize, there: usize, held: &[u8], net: &LoadedNet) -> u32
+    ensures { result ≡ open_code (net_in net.now.words.now) claimed there (kinds_in (net_in net.now.words.now) held.now) }
 {
     if there < claimed {
         return 71;
     }
-    if most_bytes(t) < claimed {
+    if most_bytes(net.words) < claimed {
         return 11;
     }
-    register_refusal(held, t)
+    match register_refusal(held, net) {
+        Ok(()) => 0,
+        Err(refused) => refused.number(),
+    }
 }
 
 // The same for a file that is held whole.
-fn held_refusal(file: &[u8], claimed: usize, t: &NetWords) -> u32
-    requires held { Held t.now }
+fn held_refusal(file: &[u8], claimed: usize, net: &LoadedNet) -> u32
     requires in_bounds { 16 ≤ length file.now }
-    ensures { result ≡ open_code (net_in t.now) claimed (length file.now - 16) (kinds_in (net_in t.now) (take claimed (drop 16 file.now))) }
+    ensures { result ≡ open_code (net_in net.now.words.now) claimed (length file.now - 16) (kinds_in (net_in net.now.words.now) (take claimed (drop 16 file.now))) }
 {
     let rest = file.len() - 16;
     if rest < claimed {
         return 71;
     }
     let end = 16 + claimed;
-    opening_refusal(claimed, rest, &file[16..end], t)
+    opening_refusal(claimed, rest, &file[16..end], net)
 }
 
 // 71, 11, 12 or 0 for a file that is held whole.
-pub fn trace_refusal(file: &[u8], t: &NetWords) -> u32
-    requires { Held t.now }
-    ensures { result ≡ trace_code (net_in t.now) file.now }
+pub fn trace_refusal(file: &[u8], net: &LoadedNet) -> u32
+    ensures { result ≡ trace_code (net_in net.now.words.now) file.now }
 {
-    match read_contents(file, t) {
+    match read_contents(file, net.words) {
         Contents::Broken => 71,
         Contents::Bodies {
             register,
             events: _,
-        } => held_refusal(file, register, t),
+        } => held_refusal(file, register, net),
     }
 }

@@ -5,3 +5,4 @@ pub mod WindowLaws
 mod Body
 pub mod Behind
 pub mod Runs
+pub mod Refusals

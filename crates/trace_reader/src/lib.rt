@@ -5,7 +5,7 @@
 
 ghost use Rattle.std.specs.Prelude.{◌≡◌, ◌+◌, ◌*◌, ◌≤◌, length, take, drop};
 ghost use Rattle.words.specs.Refusals.{first};
-ghost use Rattle.net.specs.Held.{net_in, Held};
+ghost use Rattle.net.specs.Held.{net_in};
 ghost use Rattle.replay.specs.Ready.{KnownKinds};
 ghost use Rattle.replay.specs.Register.{kinds_in};
 ghost use Rattle.trace_reader.specs.Answers as answers;
@@ -13,8 +13,7 @@ ghost use Rattle.trace_reader.specs.Parts.{Ready, count_tests, front_tests, obje
 ghost use Rattle.trace_reader.specs.Trace.{end_found, read_code, read_from, read_at_code, read_at};
 
 use crate::objects::read_objects;
-use net::NetWords;
-use net_lookup::{acts, arcs};
+use net_lookup::LoadedNet;
 use replay_objects::objects::refuse_objects;
 use trace_header::{Contents, read_contents};
 use words::{wide, word_at};
@@ -79,17 +78,16 @@ fn end_found(window: &[u8], at: usize) -> Answer
 }
 
 // 23, 24, 73 or 0: the activity, the number of objects, the objects' bytes.
-fn refuse_counts(window: &[u8], body: usize, at: usize, t: &NetWords) -> u32
-    requires held { Held t.now }
+fn refuse_counts(window: &[u8], body: usize, at: usize, net: &LoadedNet) -> u32
     requires in_bounds { (8 ≤ length window.now) × (at + 8 ≤ body) }
-    ensures { result ≡ first (count_tests (net_in t.now) window.now body at) }
+    ensures { result ≡ first (count_tests (net_in net.now.words.now) window.now body at) }
 {
     let act = wide(word_at(window, 0));
-    if acts(t) <= act {
+    if net.acts() <= act {
         return 23;
     }
     let n = wide(word_at(window, 4));
-    if n != arcs(t, act) {
+    if n != net.arcs(act) {
         return 24;
     }
     if body - at < 8 + 4 * n {
@@ -102,9 +100,8 @@ fn refuse_counts(window: &[u8], body: usize, at: usize, t: &NetWords) -> u32
 }
 
 // 73, 22, 23, 24 or 0: all tests before the objects.
-fn refuse_front(window: &[u8], body: usize, at: usize, accepted: u32, t: &NetWords) -> u32
-    requires { Held t.now }
-    ensures { result ≡ first (front_tests (net_in t.now) accepted window.now body at) }
+fn refuse_front(window: &[u8], body: usize, at: usize, accepted: u32, net: &LoadedNet) -> u32
+    ensures { result ≡ first (front_tests (net_in net.now.words.now) accepted window.now body at) }
 {
     if body < at {
         return 73;
@@ -118,32 +115,30 @@ fn refuse_front(window: &[u8], body: usize, at: usize, accepted: u32, t: &NetWor
     if 1000000 <= accepted {
         return 22;
     }
-    refuse_counts(window, body, at, t)
+    refuse_counts(window, body, at, net)
 }
 
 // The event at the front of the window, or 25, 26 or 27.
-fn read_event(window: &[u8], at: usize, register: &[u8], t: &NetWords) -> Answer
-    requires held { Held t.now }
-    requires known_kinds { KnownKinds (net_in t.now) (kinds_in (net_in t.now) register.now) }
-    requires ready { Ready (net_in t.now) window.now at }
-    ensures { result ≡ objects_found (net_in t.now) (kinds_in (net_in t.now) register.now) window.now at }
+fn read_event(window: &[u8], at: usize, register: &[u8], net: &LoadedNet) -> Answer
+    requires known_kinds { KnownKinds (net_in net.now.words.now) (kinds_in (net_in net.now.words.now) register.now) }
+    requires ready { Ready (net_in net.now.words.now) window.now at }
+    ensures { result ≡ objects_found (net_in net.now.words.now) (kinds_in (net_in net.now.words.now) register.now) window.now at }
 {
     let activity = word_at(window, 0);
     let count = word_at(window, 4);
     let n = wide(count);
     let end = 8 + 4 * n;
-    let code = refuse_objects(&window[8..end], wide(activity), register, t);
-    if code != 0 {
-        return nothing(Found::Refused(code), at);
-    }
-    Answer {
-        found: Found::Event,
-        event: Event {
-            activity,
-            count,
-            objects: read_objects(window, n),
+    match refuse_objects(&window[8..end], wide(activity), register, net) {
+        Ok(()) => Answer {
+            found: Found::Event,
+            event: Event {
+                activity,
+                count,
+                objects: read_objects(window, n),
+            },
+            next: Cursor { at: at + 8 + 4 * n },
         },
-        next: Cursor { at: at + 8 + 4 * n },
+        Err(refused) => nothing(Found::Refused(refused.number()), at),
     }
 }
 
@@ -172,22 +167,21 @@ impl Cursor {
         body: usize,
         accepted: u32,
         register: &[u8],
-        t: &NetWords,
+        net: &LoadedNet,
     ) -> Answer
-        requires held { Held t.now }
-        requires known_kinds { KnownKinds (net_in t.now) (kinds_in (net_in t.now) register.now) }
-        ensures answer { result ≡ read_from (net_in t.now) (kinds_in (net_in t.now) register.now) accepted window.now 0 body self.at }
-        ensures code { answers.found_code result.found ≡ read_code (net_in t.now) (kinds_in (net_in t.now) register.now) accepted window.now 0 body self.at }
+        requires known_kinds { KnownKinds (net_in net.now.words.now) (kinds_in (net_in net.now.words.now) register.now) }
+        ensures answer { result ≡ read_from (net_in net.now.words.now) (kinds_in (net_in net.now.words.now) register.now) accepted window.now 0 body self.at }
+        ensures code { answers.found_code result.found ≡ read_code (net_in net.now.words.now) (kinds_in (net_in net.now.words.now) register.now) accepted window.now 0 body self.at }
     {
         let at = self.at;
         if at == body {
             return end_found(window, at);
         }
-        let code = refuse_front(window, body, at, accepted, t);
+        let code = refuse_front(window, body, at, accepted, net);
         if code != 0 {
             return nothing(Found::Refused(code), at);
         }
-        read_event(window, at, register, t)
+        read_event(window, at, register, net)
     }
 
     // Reads in the events body of a file whose register claims `claimed` bytes.
@@ -198,12 +192,11 @@ impl Cursor {
         body: usize,
         accepted: u32,
         register: &[u8],
-        t: &NetWords,
+        net: &LoadedNet,
     ) -> Answer
-        requires held { Held t.now }
-        requires known_kinds { KnownKinds (net_in t.now) (kinds_in (net_in t.now) register.now) }
+        requires known_kinds { KnownKinds (net_in net.now.words.now) (kinds_in (net_in net.now.words.now) register.now) }
         requires in_bounds { (16 ≤ length file.now) × (claimed + body ≤ 8589934592) }
-        ensures { result ≡ body_read (net_in t.now) (kinds_in (net_in t.now) register.now) accepted file.now claimed body self.at }
+        ensures { result ≡ body_read (net_in net.now.words.now) (kinds_in (net_in net.now.words.now) register.now) accepted file.now claimed body self.at }
     {
         let at = self.at;
         if file.len() - 16 < claimed {
@@ -217,23 +210,22 @@ impl Cursor {
             body,
             accepted,
             register,
-            t,
+            net,
         )
     }
 
     // Reads in a file that is held whole.
-    pub fn read(self, file: &[u8], accepted: u32, register: &[u8], t: &NetWords) -> Answer
-        requires held { Held t.now }
-        requires known_kinds { KnownKinds (net_in t.now) (kinds_in (net_in t.now) register.now) }
-        ensures answer { result ≡ read_at (net_in t.now) (kinds_in (net_in t.now) register.now) accepted file.now self.at }
-        ensures code { answers.found_code result.found ≡ read_at_code (net_in t.now) (kinds_in (net_in t.now) register.now) accepted file.now self.at }
+    pub fn read(self, file: &[u8], accepted: u32, register: &[u8], net: &LoadedNet) -> Answer
+        requires known_kinds { KnownKinds (net_in net.now.words.now) (kinds_in (net_in net.now.words.now) register.now) }
+        ensures answer { result ≡ read_at (net_in net.now.words.now) (kinds_in (net_in net.now.words.now) register.now) accepted file.now self.at }
+        ensures code { answers.found_code result.found ≡ read_at_code (net_in net.now.words.now) (kinds_in (net_in net.now.words.now) register.now) accepted file.now self.at }
     {
-        match read_contents(file, t) {
+        match read_contents(file, net.words) {
             Contents::Broken => nothing(Found::Refused(71), self.at),
             Contents::Bodies {
                 register: claimed,
                 events,
-            } => self.read_body(file, claimed, events, accepted, register, t),
+            } => self.read_body(file, claimed, events, accepted, register, net),
         }
     }
 }

@@ -1,67 +1,28 @@
--- Positions of another length are misplaced; an object more is not; each return by what is left there. Assumes nothing.
-use Prim.Native.Nat.{ℕ, ◌<◌}
-use mathlib.Core.List.{List, []}
-use mathlib.Core.Path.{◌≡◌, refl, sym, ◌∙◌}
-use native.Mathlib.Omega.{arith}
-use lib.ListN.{length, get_or}
+-- Each object has a kind that the net knows, and a row in both bodies; the search for a misplaced one is the test. Assumes nothing.
+use Rattle.std.proofs.Common.{ℕ, ◌<◌, ◌≡◌, length, get_or, List, [], arith, rules, tests, refl, ◌∙◌}
+use Rattle.std.proofs.lemmas.Iterator.{serves_from_Range, YieldsList-from_range}
+use Rattle.std.proofs.lemmas.Iterator.Search.{any_from_yields_List}
 use Rattle.words.specs.Words.{words_of}
 use Rattle.words.proofs.Lists.{All-at}
 use Rattle.words.proofs.Words.{length-words}
 use Rattle.net.specs.Held.{net_in}
-use Rattle.words.proofs.Scan.{any_to-turn, any_to-found, any_to-end}
 use Rattle.replay.proofs.Accepted.{registered}
 use Rattle.checkpoint.specs.Bodies.{body_state}
-use Rattle.checkpoint_positions.proofs.Placing.{positions-size, positions-hit}
-use Rattle.checkpoint_positions.proofs.bad_positions.Invariants.{bad}
+use Rattle.checkpoint_positions.proofs.Placing.{positions-hit}
+use Rattle.checkpoint_positions.specs.Positions.{bad_position}
 use Rattle.checkpoint_positions.proofs.bad_positions.Goals as goal
 
-pub position_bytes-requires : goal.position_bytes-requires
-position_bytes-requires c = omega (arith, c.objects-n.ensures, (registered (net_in c.args.t.now) (words_of c.args.ks.now) c.requires.registered).few)
-
-pub returns-then-ps-position_bytes : goal.returns-then-ps-position_bytes
-returns-then-ps-position_bytes c =
-    let a = c.args in
-    positions-size (net_in a.t.now) (body_state (net_in a.t.now) a.ks.now a.ps.now [] []) (length a.ps.now) a.closed (λ e. c.if-ps-position_bytes.true (omega (arith, length-words a.ks.now)))
-
-pub loop-o-init : goal.loop-o-init
-loop-o-init c = (omega arith, refl)
-
-pub kind-requires : goal.kind-requires
-kind-requires c = omega (arith, length-words c.args.ks.now)
-
-pub place-requires : goal.place-requires
-place-requires c = omega (arith, length-words c.args.ps.now)
-
-pub bad_position-requires : goal.bad_position-requires
-bad_position-requires c =
-    let N = net_in c.args.t.now in
+pub any-requires-clause-callable : goal.any-requires-clause-callable
+any-requires-clause-callable c =
+    let N = net_in c.args.net.now.words.now in
     let K : List ℕ = words_of c.args.ks.now in
-    let o : ℕ = c.loop-o.o in
-    record { held = c.requires.held; known_kind = omega (arith, All-at (λ (k : ℕ). k < N.kinds) 0 K (registered N K c.requires.registered).kinds o (omega (arith, length-words c.args.ks.now)), c.wide.ensures, c.kind.ensures) }
+    let known : (o : ℕ) → o < length K → get_or K o 0 < N.kinds = All-at (λ (k : ℕ). k < N.kinds) 0 K (registered N K c.requires.registered).kinds in
+    let rows : length (words_of c.args.ps.now) ≡ length K = omega (arith, length-words c.args.ps.now) in
+    serves_from_Range (λ x q h. search (rules, tests)) (λ x a b. search (rules, arith))
 
-pub returns-then-bad_position : goal.returns-then-bad_position
-returns-then-bad_position c =
-    let l = c.loop-o in
-    let a = c.args in
-    let f = bad a.ks.now a.ps.now a.t.now a.closed in
-    let k : c.wide.result ≡ get_or (words_of a.ks.now) l.o 0 = c.wide.ensures ∙ c.kind.ensures in
-    let p : c.wide-in-loop-o.result ≡ get_or (words_of a.ps.now) l.o 0 = c.wide-in-loop-o.ensures ∙ c.place.ensures in
-    any_to-found f (length (words_of a.ks.now)) l.o (omega (arith, length-words a.ks.now)) (rw (← k, ← p) (sym c.bad_position.ensures ∙ c.if-bad_position.true)) ∙ l.invariant.1
-    ∙ positions-hit (net_in a.t.now) (body_state (net_in a.t.now) a.ks.now a.ps.now [] []) (length a.ps.now) a.closed (omega (arith, length-words a.ks.now))
-
-pub loop-o-preserved : goal.loop-o-preserved
-loop-o-preserved c =
-    let l = c.loop-o in
-    let a = c.args in
-    let f = bad a.ks.now a.ps.now a.t.now a.closed in
-    let k : c.wide.result ≡ get_or (words_of a.ks.now) l.o 0 = c.wide.ensures ∙ c.kind.ensures in
-    let p : c.wide-in-loop-o.result ≡ get_or (words_of a.ps.now) l.o 0 = c.wide-in-loop-o.ensures ∙ c.place.ensures in
-    (omega arith, any_to-turn f (length (words_of a.ks.now)) l.o (omega (arith, length-words a.ks.now)) (rw (← k, ← p) (sym c.bad_position.ensures ∙ c.if-bad_position.false)) ∙ l.invariant.1)
-
-pub returns : goal.returns
-returns c =
-    let l = c.loop-o in
-    let a = c.args in
-    let f = bad a.ks.now a.ps.now a.t.now a.closed in
-    any_to-end f (length (words_of a.ks.now)) l.o (omega (arith, length-words a.ks.now)) ∙ l.invariant.1
-    ∙ positions-hit (net_in a.t.now) (body_state (net_in a.t.now) a.ks.now a.ps.now [] []) (length a.ps.now) a.closed (omega (arith, length-words a.ks.now))
+pub returns-else-ps-position_bytes : goal.returns-else-ps-position_bytes
+returns-else-ps-position_bytes c =
+    let N = net_in c.args.net.now.words.now in
+    let d = body_state N c.args.ks.now c.args.ps.now [] [] in
+    any_from_yields_List (λ (o : ℕ). bad_position N c.args.closed (get_or d.kinds o 0) (get_or d.places o 0)) _ _ c.any.result c.any.ensures.ran (YieldsList-from_range 0 c.objects-n.result (length d.kinds) refl (omega arith)) (λ x b q k. search (rules, tests))
+    ∙ positions-hit N d (length c.args.ps.now) c.args.closed (omega arith)

@@ -77,5 +77,5 @@ slice_bounds-judge-start-4 c =
 pub returns : goal.returns
 returns c =
     let starts : let b : List ℕ = c.args.rec.now in (c.wide-k.result ≡ word b 8) × (c.wide-p.result ≡ word b 16) × (c.wide-c.result ≡ word b 24) × (c.wide-j.result ≡ word b 32) = (c.wide-k.ensures ∙ c.word_at.ensures, c.wide-p.ensures ∙ c.word_at-2.ensures, c.wide-c.ensures ∙ c.word_at-3.ensures, c.wide-j.ensures ∙ c.word_at-4.ensures) in
-    let r = judged c.args.rec.now c.args.t.now c.requires c.wide-k.result c.wide-p.result c.wide-c.result c.wide-j.result starts.0 starts.1 starts.2 starts.3 in
+    let r = judged c.args.rec.now c.args.net.now.words.now c.requires c.wide-k.result c.wide-p.result c.wide-c.result c.wide-j.result starts.0 starts.1 starts.2 starts.3 in
     record { code = c.judge.ensures.code ∙ r.0; second = c.judge.ensures.second ∙ r.1 }

@@ -16,5 +16,5 @@ returns-then-rest-claimed c = rw (lt-ltb _ _ c.if-rest-claimed.true) refl
 pub returns : goal.returns
 returns c = let a = c.args in
     let e : 16 + a.claimed - 16 ≡ a.claimed = omega arith in
-    let r : c.opening_refusal.result ≡ open_code (net_in a.t.now) a.claimed (length a.file.now - 16) (kinds_in (net_in a.t.now) (take (16 + a.claimed - 16) (drop 16 a.file.now))) = c.opening_refusal.ensures in
-    r ∙ ap (λ (k : ℕ). open_code (net_in a.t.now) a.claimed (length a.file.now - 16) (kinds_in (net_in a.t.now) (take k (drop 16 a.file.now)))) e
+    let r : c.opening_refusal.result ≡ open_code (net_in a.net.now.words.now) a.claimed (length a.file.now - 16) (kinds_in (net_in a.net.now.words.now) (take (16 + a.claimed - 16) (drop 16 a.file.now))) = c.opening_refusal.ensures in
+    r ∙ ap (λ (k : ℕ). open_code (net_in a.net.now.words.now) a.claimed (length a.file.now - 16) (kinds_in (net_in a.net.now.words.now) (take k (drop 16 a.file.now)))) e

@@ -1,6 +1,6 @@
 -- Each return by the tests passed on the way. Assumes nothing.
 use mathlib.Core.Bool.{false}
-use mathlib.Core.Path.{◌≡◌, refl}
+use mathlib.Core.Path.{◌≡◌, refl, ◌∙◌}
 use native.Mathlib.Omega.{arith}
 use lib.Dec.{ltb}
 use borrow.Author.Tests.{lt-ltb, le-ltb}
@@ -17,11 +17,18 @@ pub returns-then-most_bytes-claimed : goal.returns-then-most_bytes-claimed
 unfolding open_code
 returns-then-most_bytes-claimed c =
     let whole : ltb c.args.there c.args.claimed ≡ false = let a = c.args in le-ltb a.there a.claimed (omega arith) in
-    let a = c.args in rw (whole, lt-ltb (max_register (net_in a.t.now)) a.claimed (omega (arith, c.most_bytes.ensures))) refl
+    let a = c.args in rw (whole, lt-ltb (max_register (net_in a.net.now.words.now)) a.claimed (omega (arith, c.most_bytes.ensures))) refl
 
-pub returns : goal.returns
+pub returns-in-Ok : goal.returns-in-Ok
 unfolding open_code
-returns c =
+returns-in-Ok c =
     let whole : ltb c.args.there c.args.claimed ≡ false = let a = c.args in le-ltb a.there a.claimed (omega arith) in
-    let few : ltb (max_register (net_in c.args.t.now)) c.args.claimed ≡ false = let a = c.args in le-ltb (max_register (net_in a.t.now)) a.claimed (omega (arith, c.most_bytes.ensures)) in
-    rw (whole, few) c.register_refusal.ensures
+    let few : ltb (max_register (net_in c.args.net.now.words.now)) c.args.claimed ≡ false = let a = c.args in le-ltb (max_register (net_in a.net.now.words.now)) a.claimed (omega (arith, c.most_bytes.ensures)) in
+    rw (whole, few) c.in-Ok.ensures
+
+pub returns-in-Err : goal.returns-in-Err
+unfolding open_code
+returns-in-Err c =
+    let whole : ltb c.args.there c.args.claimed ≡ false = let a = c.args in le-ltb a.there a.claimed (omega arith) in
+    let few : ltb (max_register (net_in c.args.net.now.words.now)) c.args.claimed ≡ false = let a = c.args in le-ltb (max_register (net_in a.net.now.words.now)) a.claimed (omega (arith, c.most_bytes.ensures)) in
+    rw (whole, few) (c.number.ensures ∙ c.in-Err.ensures)

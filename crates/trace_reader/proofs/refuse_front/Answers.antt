@@ -24,7 +24,7 @@ returns-then-window-lt8 c =
     let a = c.args in rw (at_in, first-in, lt-ltb (length a.window.now) 8 (omega arith)) refl
 
 pub refuse_counts-requires : goal.refuse_counts-requires
-refuse_counts-requires c = record { held = search rules; in_bounds = search rules }
+refuse_counts-requires c = record { in_bounds = search rules }
 
 pub returns : goal.returns
 returns c =

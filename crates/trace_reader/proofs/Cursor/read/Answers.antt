@@ -16,11 +16,11 @@ use Rattle.trace_reader.proofs.Cursor.read.Goals as goal
 
 pub read_body-requires : goal.read_body-requires
 read_body-requires c =
-    let N : Net = net_in c.args.t.now in
+    let N : Net = net_in c.args.net.now.words.now in
     let f : List ℕ = c.args.file.now in
     let bytes : (i : ℕ) → get_or f i 0 < 256 = λ i. search rules in
     let q = contents-bodies N f _ _ (sym c.read_contents.ensures.answer ∙ c.in-Bodies.is) in
-    record { held = c.requires.held; known_kinds = c.requires.known_kinds; in_bounds = omega (arith, head-there N f q.0, q.1, q.2, word_small f bytes 4, word_small f bytes 12) }
+    record { known_kinds = c.requires.known_kinds; in_bounds = omega (arith, head-there N f q.0, q.1, q.2, word_small f bytes 4, word_small f bytes 12) }
 
 pub returns-in-Broken : goal.returns-in-Broken
 returns-in-Broken c = let all = (let a = c.args in

@@ -21,7 +21,7 @@ returns-then-body-at c = let a = c.args in
     rw (le-ltb (length a.file.now) (16 + a.claimed) (omega arith)) (c.nothing-then-body-at.ensures ∙ past_end _ _ a.accepted a.file.now (16 + a.claimed + a.self.at) _ _ c.if-body-at.true)
 
 pub read_window-requires : goal.read_window-requires
-read_window-requires c = record { held = search rules; known_kinds = search rules }
+read_window-requires c = record { known_kinds = search rules }
 
 pub returns : goal.returns
 unfolding body_read
@@ -30,4 +30,4 @@ returns c = let a = c.args in
     let e : take 40 c.window_at.result.now ≡ take 40 (drop (16 + a.claimed + a.self.at) a.file.now) =
     ap (take 40) w ∙ take-take 40 40 (drop (16 + a.claimed + a.self.at) a.file.now) (omega arith) in
     rw (le-ltb (length a.file.now) (16 + a.claimed) (omega arith))
-    (c.read_window.ensures.answer ∙ window-enough _ (held-loaded _ c.requires.held) _ a.accepted c.window_at.result.now a.file.now (16 + a.claimed + a.self.at) e a.body a.self.at)
+    (c.read_window.ensures.answer ∙ window-enough _ (held-loaded _ c.args.net.now.held) _ a.accepted c.window_at.result.now a.file.now (16 + a.claimed + a.self.at) e a.body a.self.at)
