@@ -11,8 +11,8 @@ pub fn code(n: usize) -> u32
     requires { n < 1000 }
     ensures { result ≡ digit_code n }
 {
-    let hundreds = 48 + n / 100;
-    let tens = 48 + n / 10 % 10;
-    let units = 48 + n % 10;
-    (hundreds * 65536 + tens * 256 + units) as u32
+    let hundreds = b'0' + (n / 100) as u8;
+    let tens = b'0' + (n / 10 % 10) as u8;
+    let units = b'0' + (n % 10) as u8;
+    u32::from_be_bytes([0, hundreds, tens, units])
 }

@@ -1,9 +1,7 @@
 -- FIT: 1 - jumps/transfers in thousandths, to the nearest one, and how it is written.
-use Rattle.std.specs.Prelude.{ℕ, ◌+◌, ◌*◌, ◌-◌, ◌/◌, ◌%◌, min, List, [], ◌∷◌, eqb}
+use Rattle.std.specs.Prelude.{ℕ, ◌+◌, ◌*◌, ◌-◌, ◌/◌, ◌%◌, min, Option, Some, None, List, [], ◌∷◌, eqb}
 use Rattle.words.specs.Lists.{pick}
 use Rattle.digits.specs.Code.{hundreds, tens, units}
-use Rattle.fitness.specs.declared.Fitness.{Fitness}
-use Rattle.fitness.specs.declared.Fitness.TheVariants.{Undefined, Thousandths}
 
 -- the thousandth nearest to 1 - jumps/transfers, a half going up, where there are transfers
 abbrev pub nearest : ℕ → ℕ → ℕ
@@ -18,10 +16,10 @@ unfoldable pub thousandths : ℕ → ℕ → ℕ
 thousandths jumps transfers = min (most_shown jumps) (nearest jumps transfers)
 
 -- none where the divisor is 0
-unfoldable pub fitness : ℕ → ℕ → Fitness
-fitness jumps transfers = pick (eqb transfers 0) Undefined (Thousandths (thousandths jumps transfers))
+unfoldable pub fitness : ℕ → ℕ → Option ℕ
+fitness jumps transfers = pick (eqb transfers 0) None (Some (thousandths jumps transfers))
 
 -- `-`, or one digit, a point and the three digits of the thousandths
-abbrev pub fitness_text : Fitness → List ℕ
-fitness_text Undefined = 45 ∷ []
-fitness_text (Thousandths n) = (48 + n / 1000) ∷ 46 ∷ hundreds (n % 1000) ∷ tens (n % 1000) ∷ units (n % 1000) ∷ []
+abbrev pub fitness_text : Option ℕ → List ℕ
+fitness_text None = 45 ∷ []
+fitness_text (Some n) = (48 + n / 1000) ∷ 46 ∷ hundreds (n % 1000) ∷ tens (n % 1000) ∷ units (n % 1000) ∷ []

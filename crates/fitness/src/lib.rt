@@ -3,29 +3,9 @@
 
 #![tactic(auto)]
 
-ghost use Rattle.std.specs.Prelude.{◌≡◌, ◌-◌, ◌≤◌, length};
+ghost use Rattle.std.specs.Prelude.{◌≡◌, ◌≤◌, length, Some};
 ghost use Rattle.words.specs.Lists.{over};
 ghost use Rattle.fitness.specs.Fitness.{nearest, most_shown, thousandths, fitness, fitness_text};
-ghost use Rattle.fitness.specs.declared.Fitness.TheVariants.{Thousandths};
-
-// FIT, if there are transfers to divide by.
-#[derive(Drop)]
-pub enum Fitness {
-    // There are none.
-    Undefined,
-    Thousandths(u32),
-}
-
-// The transfers that were no jumps.
-fn kept(jumps: u32, transfers: u32) -> u64
-    ensures { (result ≡ transfers - jumps) × (result ≤ transfers) }
-{
-    if jumps < transfers {
-        (transfers - jumps) as u64
-    } else {
-        0
-    }
-}
 
 // The thousandth nearest to 1 - jumps/transfers, a half going up.
 fn nearest_one(jumps: u32, transfers: u32) -> u64
@@ -33,7 +13,8 @@ fn nearest_one(jumps: u32, transfers: u32) -> u64
     ensures { result ≡ nearest jumps transfers }
 {
     let whole = transfers as u64;
-    (2000 * kept(jumps, transfers) + whole) / (2 * whole)
+    let kept = transfers.saturating_sub(jumps) as u64;
+    (2000 * kept + whole) / (2 * whole)
 }
 
 // The most that is shown: 1.000 where there is no jump, 0.999 with one or more.
@@ -44,27 +25,23 @@ fn most_shown(jumps: u32) -> u64
 }
 
 // The thousandths where there are transfers: the one place where FIT is rounded.
+#[tactic(auto, unfolding(crate::specs::Fitness::thousandths))]
 fn rounded(jumps: u32, transfers: u32) -> u32
     requires { 1 ≤ transfers }
     ensures { (result ≡ thousandths jumps transfers) × (result ≤ 1000) }
 {
-    let shown = nearest_one(jumps, transfers);
-    let most = most_shown(jumps);
-    if shown < most {
-        shown as u32
-    } else {
-        most as u32
-    }
+    most_shown(jumps).min(nearest_one(jumps, transfers)) as u32
 }
 
-// FIT of so many jumps in so many transfers.
-fn fitness_of(jumps: u32, transfers: u32) -> Fitness
+// FIT of so many jumps in so many transfers, in thousandths, if there are transfers to divide by.
+#[tactic(auto, unfolding(crate::specs::Fitness::fitness))]
+fn fitness_of(jumps: u32, transfers: u32) -> Option<u32>
     ensures { result ≡ fitness jumps transfers }
 {
     if transfers == 0 {
-        Fitness::Undefined
+        None
     } else {
-        Fitness::Thousandths(rounded(jumps, transfers))
+        Some(rounded(jumps, transfers))
     }
 }
 
@@ -73,35 +50,32 @@ pub fn width(jumps: u32, transfers: u32) -> usize
     ensures { (result ≡ length (fitness_text (fitness jumps transfers))) × (result ≤ 5) }
 {
     match fitness_of(jumps, transfers) {
-        Fitness::Undefined => 1,
-        Fitness::Thousandths(_) => 5,
+        None => 1,
+        Some(_) => 5,
     }
 }
 
 // n thousandths, as one digit, a point and the three digits of the digit code.
 fn put_thousandths(n: u32, out: &mut [u8]) -> usize
     requires { (n ≤ 1000) × (5 ≤ length out.old) }
-    ensures { (result ≡ 5) × (out.new ≡ over (fitness_text (Thousandths n)) out.old) }
+    ensures { (result ≡ 5) × (out.new ≡ over (fitness_text (Some n)) out.old) }
 {
-    let code = digits::code(words::wide(n % 1000));
-    out[0] = (48 + n / 1000) as u8;
-    out[1] = 46;
-    out[2] = (code / 65536) as u8;
-    out[3] = (code / 256 % 256) as u8;
-    out[4] = (code % 256) as u8;
+    let [_, hundreds, tens, units] = digits::code((n % 1000) as usize).to_be_bytes();
+    out[..5].copy_from_slice(&[b'0' + (n / 1000) as u8, b'.', hundreds, tens, units]);
     5
 }
 
 // Fills FIT from the start of a lent part, and gives how many bytes it takes.
+#[tactic(auto, using(crate::proofs::FitnessLaws::thousandths_le))]
 pub fn put(jumps: u32, transfers: u32, out: &mut [u8]) -> usize
     requires { length (fitness_text (fitness jumps transfers)) ≤ length out.old }
     ensures { (result ≡ length (fitness_text (fitness jumps transfers))) × (out.new ≡ over (fitness_text (fitness jumps transfers)) out.old) }
 {
     match fitness_of(jumps, transfers) {
-        Fitness::Undefined => {
-            out[0] = 45;
+        None => {
+            out[0] = b'-';
             1
         }
-        Fitness::Thousandths(n) => put_thousandths(n, out),
+        Some(n) => put_thousandths(n, out),
     }
 }

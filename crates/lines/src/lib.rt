@@ -6,15 +6,13 @@
 ghost use Rattle.std.specs.Prelude.{◌≡◌, [], ◌≤◌, length};
 ghost use Rattle.words.specs.Lists.{over};
 ghost use Rattle.lines.specs.Lines.{fields_text, line_of};
-ghost use Rattle.lines.specs.Answer.{size_of, Writes};
+ghost use Rattle.lines.specs.Answer.{Writes};
 
-use text::field::{Field, Word};
+use text::field::{Field, Word, field_width, put_field, put_word, word_width};
 
-// The answer to writing a line. `line_answer_code` gives document 01's number.
+// Why a line is not written; `Ok` has how many bytes are. `line_answer_code` gives document 01's number.
 #[derive(Clone, Copy)]
-pub enum LineAnswer {
-    // The line is in the lent part, and has this many bytes.
-    Written(usize),
+pub enum LineError {
     // 51: unknown place.
     UnknownPlace,
     // 52: unknown activity.
@@ -23,56 +21,37 @@ pub enum LineAnswer {
     NoRoom,
 }
 
-// How many bytes were written.
-pub fn size(r: LineAnswer) -> usize
-    ensures { result ≡ size_of r }
-{
-    match r {
-        LineAnswer::Written(n) => n,
-        LineAnswer::UnknownPlace => 0,
-        LineAnswer::UnknownActivity => 0,
-        LineAnswer::NoRoom => 0,
-    }
-}
-
 // How many bytes the fields take, with the line feed that ends the line.
-fn fields_width(fs: [Field; 5]) -> usize
-    ensures { (result ≡ length (fields_text fs)) × (result ≤ 106) }
+fn fields_width(fs: &[Field]) -> usize
+    requires { length fs.now ≤ 5 }
+    ensures { (result ≡ length (fields_text fs.now)) × (result ≤ 106) }
 {
-    let mut n = 1;
-    let mut i = 0;
-    while i < 5 {
-        let f = fs[i];
-        n += text::field::field_width(f);
-        i += 1;
-    }
-    n
+    let fields: usize = fs.iter().map(|f| field_width(*f)).sum();
+    fields + 1
 }
 
 // The fields one behind the other from the start of a lent part, and the line feed.
-fn put_fields(fs: [Field; 5], out: &mut [u8])
-    requires { length (fields_text fs) ≤ length out.old }
-    ensures { out.new ≡ over (fields_text fs) out.old }
+fn put_fields(fs: &[Field], out: &mut [u8])
+    requires { length (fields_text fs.now) ≤ length out.old }
+    ensures { out.new ≡ over (fields_text fs.now) out.old }
 {
     let mut at = 0;
-    let mut i = 0;
-    while i < 5 {
-        let f = fs[i];
-        at += text::field::put_field(f, &mut out[at..]);
-        i += 1;
+    for f in fs {
+        at += put_field(*f, &mut out[at..]);
     }
-    out[at] = 10;
+    out[at] = b'\n';
 }
 
-// A line of a word and fields.
-pub fn write_line(w: Word, fs: [Field; 5], out: &mut [u8]) -> LineAnswer
-    ensures { Writes [] (line_of w fs) out.old result out.new }
+// A line of a word and at most five fields.
+pub fn write_line(w: Word, fs: &[Field], out: &mut [u8]) -> Result<usize, LineError>
+    requires { length fs.now ≤ 5 }
+    ensures { Writes [] (line_of w fs.now) out.old result out.new }
 {
-    let n = text::field::word_width(w) + fields_width(fs);
+    let n = word_width(w) + fields_width(fs);
     if out.len() < n {
-        return LineAnswer::NoRoom;
+        return Err(LineError::NoRoom);
     }
-    let at = text::field::put_word(w, out);
+    let at = put_word(w, out);
     put_fields(fs, &mut out[at..]);
-    LineAnswer::Written(n)
+    Ok(n)
 }

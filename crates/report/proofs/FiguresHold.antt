@@ -1,5 +1,6 @@
 -- Every line of a sound state that has a FIT shows it rounded as A.7 asks, also where no trail wrote the state. Assumes nothing.
 use Prim.Native.Nat.{ℕ, zero, suc, ◌+◌, ◌/◌, ◌%◌, ◌≤◌, ◌<◌}
+use Rattle.std.specs.Prelude.{Option, Some, None}
 use mathlib.Core.Bool.{Bool, true, false}
 use mathlib.Core.Path.{◌≡◌, refl, ap, sym, subst, ◌∙◌}
 use mathlib.Core.List.{List, [], ◌∷◌, ◌++◌}
@@ -14,8 +15,6 @@ use Rattle.replay.specs.Calls.{net_at, state_at}
 use Rattle.replay.proofs.Within.{jumps-within}
 use Rattle.fitness.specs.Fitness.{thousandths, fitness, fitness_text}
 use Rattle.fitness.specs.Rounding.{Rounded}
-use Rattle.fitness.specs.declared.Fitness.{Fitness}
-use Rattle.fitness.specs.declared.Fitness.TheVariants.{Undefined, Thousandths}
 use Rattle.fitness.proofs.RoundingLaws.{thousandths-rounded}
 use Rattle.text.specs.Decimal.{digits_in, decimal}
 use Rattle.text.specs.Fields.{word_text}
@@ -50,9 +49,9 @@ number-dark : (n : ℕ) → Dark (decimal n)
 unfolding decimal
 number-dark n = digits-dark (suc n) n
 
-fitness-dark : (f : Fitness) → Dark (fitness_text f)
-fitness-dark Undefined = omega arith
-fitness-dark (Thousandths n) = omega arith
+fitness-dark : (f : Option ℕ) → Dark (fitness_text f)
+fitness-dark None = omega arith
+fitness-dark (Some n) = omega arith
 
 -- a piece that is passed over, and the piece that is asked for
 skip : (k : ℕ) (xs ys : List ℕ) → Dark xs → piece_at (suc k) (xs ++ (32 ∷ ys)) ≡ piece_at k ys
@@ -84,7 +83,7 @@ figure-is w a b c d jumps transfers fs =
     ∙ before-fields (fitness_text (fitness jumps transfers)) fs (fitness-dark (fitness jumps transfers))
 
 -- thousandths that are written and read back
-read_back : (n : ℕ) → in_thousandths (fitness_text (Thousandths n)) ≡ n
+read_back : (n : ℕ) → in_thousandths (fitness_text (Some n)) ≡ n
 read_back n = omega arith
 
 shows : {line : List ℕ} {jumps transfers : ℕ} → PartOf jumps transfers → figure_of line ≡ fitness_text (fitness jumps transfers) → ShowsFitness line jumps transfers
@@ -98,10 +97,10 @@ shows {line} {jumps} {transfers} P e = record {
       (thousandths-rounded jumps transfers h P.at_most);
 }
   where
-    none : transfers ≡ 0 → figure_of line ≡ fitness_text Undefined
+    none : transfers ≡ 0 → figure_of line ≡ fitness_text None
     none z = e ∙ rw (eq-eqb transfers 0 z)
 
-    some : 1 ≤ transfers → figure_of line ≡ fitness_text (Thousandths (thousandths jumps transfers))
+    some : 1 ≤ transfers → figure_of line ≡ fitness_text (Some (thousandths jumps transfers))
     some h = e ∙ rw (ne_eqb transfers 0 (λ z. omega arith))
 
 pub lines-rounded : (b : List ℕ) → Sound (net_at b) (state_at b) → LinesRounded b

@@ -1,6 +1,7 @@
 -- No line of a sound state of a loaded net has more than 41 bytes, so that with as much room 61 is never given; and the line of a
 -- refusal has at most 30. Assumes nothing.
 use Prim.Native.Nat.{ℕ, suc, ◌+◌, ◌*◌, ◌^◌, ◌≤◌, ◌<◌}
+use Rattle.std.specs.Prelude.{Option, Some, None as Undefined}
 use mathlib.Core.Bool.{Bool, true, false}
 use mathlib.Core.Path.{◌≡◌, refl, ap}
 use mathlib.Core.List.{List, [], ◌∷◌}
@@ -25,8 +26,6 @@ use Rattle.replay_counts.specs.Reads.{place_tests, place_code, act_tests, act_co
 use Rattle.text.proofs.DecimalLaws.{short}
 use Rattle.fitness.specs.Fitness.{fitness, fitness_text}
 use Rattle.text.specs.Fields.{word_text, field_text}
-use Rattle.fitness.specs.declared.Fitness.{Fitness}
-use Rattle.fitness.specs.declared.Fitness.TheVariants.{Undefined, Thousandths}
 use Rattle.text.specs.declared.field.Word.{Word}
 use Rattle.text.specs.declared.field.Word.TheVariants as word
 use Rattle.text.specs.declared.field.Field.{Field}
@@ -45,9 +44,9 @@ number k n h = omega (arith, short k n h)
 fit : (jumps transfers : ℕ) → length (field_text (field.Fitness jumps transfers)) ≤ 6
 fit jumps transfers = omega (arith, go (fitness jumps transfers))
   where
-    go : (f : Fitness) → length (fitness_text f) ≤ 5
+    go : (f : Option ℕ) → length (fitness_text f) ≤ 5
     go Undefined = omega arith
-    go (Thousandths n) = omega arith
+    go (Some n) = omega arith
 
 -- fields one behind the other, by how long each can be
 abbrev Short : List Field → List ℕ → Type 0

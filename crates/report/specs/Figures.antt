@@ -1,11 +1,10 @@
 -- FIT as the three kinds of line show it (A.7). Proved in `proofs/FiguresHold.antt`.
-use Rattle.std.specs.Prelude.{ℕ, zero, suc, ◌+◌, ◌*◌, ◌-◌, ◌≤◌, ◌<◌, Bool, ◌≡◌, List, [], ◌∷◌, eqb, get_or}
+use Rattle.std.specs.Prelude.{ℕ, zero, suc, ◌+◌, ◌*◌, ◌-◌, ◌≤◌, ◌<◌, Bool, ◌≡◌, Some, None, List, [], ◌∷◌, eqb, get_or}
 use Rattle.words.specs.Lists.{pick, either}
 use Rattle.replay.specs.State.{stored_consumed, stored_jumps_in, stored_moved, stored_jumps, stored_transfers}
 use Rattle.replay.specs.Calls.{net_at, state_at}
 use Rattle.fitness.specs.Fitness.{thousandths, fitness_text}
 use Rattle.fitness.specs.Rounding.{Rounded}
-use Rattle.fitness.specs.declared.Fitness.TheVariants.{Undefined, Thousandths}
 use Rattle.report.specs.TrailLines.{trail_line_at, place_line_at, act_line_at}
 
 -- a space or a line feed, which end a piece of a line
@@ -30,8 +29,8 @@ in_thousandths f = 1000 * (get_or f 0 0 - 48) + (100 * (get_or f 2 0 - 48) + (10
 -- asks. The jumps are a part of the transfers, so that the difference in `Rounded` is not cut off at 0.
 pub record ShowsFitness (line : List ℕ) (jumps transfers : ℕ) : Type 0 where
   pub part : jumps ≤ transfers
-  pub none : transfers ≡ 0 → figure_of line ≡ fitness_text Undefined
-  pub some : 1 ≤ transfers → figure_of line ≡ fitness_text (Thousandths (thousandths jumps transfers))
+  pub none : transfers ≡ 0 → figure_of line ≡ fitness_text None
+  pub some : 1 ≤ transfers → figure_of line ≡ fitness_text (Some (thousandths jumps transfers))
   pub rounded : 1 ≤ transfers → Rounded (in_thousandths (figure_of line)) jumps transfers
 
 -- so does every line of the trail in the bytes b: of the trail by its jumps and transfers, of a place by IN and TAKEN, of an activity

@@ -13,7 +13,8 @@ use Rattle.words.proofs.Refusals.{first_then}
 use Rattle.replay.specs.Calls.{net_at}
 use Rattle.replay_counts.specs.Reads.{place_tests, act_tests, pair_tests}
 use Rattle.lines.specs.Answer.{line_code, Writes}
-use Rattle.lines.specs.declared.LineAnswer.{LineAnswer}
+use Rattle.std.specs.Prelude.{Result}
+use Rattle.lines.specs.declared.LineError.{LineError}
 use Rattle.lines.proofs.LineLaws.{same_line}
 use Rattle.report.specs.TrailLines.{trail_line_at, place_line_at, act_line_at}
 use Rattle.report.specs.Report.{pair_line_at}
@@ -45,14 +46,14 @@ module _ (b : List ℕ) where
       rw (le-ltb i (net_at b).places (omega arith), le-ltb (i - (net_at b).places) (net_at b).acts (omega arith), s) refl
 
 -- a line behind tests of which none applies
-known : {tests : List (Bool × ℕ)} {line line' lent : List ℕ} {r : LineAnswer} {left : List ℕ} → first tests ≡ 0 → All (λ (t : Bool × ℕ). 0 < t.1) tests → line ≡ line'
+known : {tests : List (Bool × ℕ)} {line line' lent : List ℕ} {r : Result ℕ LineError} {left : List ℕ} → first tests ≡ 0 → All (λ (t : Bool × ℕ). 0 < t.1) tests → line ≡ line'
     → Writes tests line lent r left → Writes [] line' lent r left
 unfolding line_code
 known {tests} {line} {line'} {lent} {r} {left} e p s w =
     let f = first_then tests ((ltb (length lent) (length line), 61) ∷ []) e p in
     same_line s (record { code = w.code ∙ f; size = rw f at w.size; few = w.few; bytes = rw f at w.bytes })
 
-module _ (b : List ℕ) {line line' lent : List ℕ} {r : LineAnswer} {left : List ℕ} where
+module _ (b : List ℕ) {line line' lent : List ℕ} {r : Result ℕ LineError} {left : List ℕ} where
   pub known-place : (q : ℕ) → q < (net_at b).places → line ≡ line' → Writes (place_tests b q) line lent r left → Writes [] line' lent r left
   known-place q h = known (rw (lt-leb (net_at b).places q h)) (omega arith, tt)
 

@@ -11,11 +11,12 @@ use borrow.Author.Tests.{lt-ltb, le-ltb, ltb-true, ltb-false}
 use Rattle.words.specs.Lists.{pick, over}
 use Rattle.words.proofs.Over.{over_at, part, part-back, from_start, behind, length-over_at}
 use Rattle.lines.specs.Answer.{line_answer_code, size_of, line_code, Writes}
-use Rattle.lines.specs.declared.LineAnswer.{LineAnswer}
+use Rattle.std.specs.Prelude.{Result}
+use Rattle.lines.specs.declared.LineError.{LineError}
 use Rattle.report_parts.specs.Parts.{lines_in, line_at, lines_from, fitting, fits, part_from, Puts}
 
 -- a line that was written, and one that was not
-module _ {line lent : List ℕ} {r : LineAnswer} {left : List ℕ} (w : Writes [] line lent r left) where
+module _ {line lent : List ℕ} {r : Result ℕ LineError} {left : List ℕ} (w : Writes [] line lent r left) where
   wrote : line_answer_code r ≡ 0 → (length line ≤ length lent) × (size_of r ≡ length line) × (left ≡ over line lent)
   unfolding line_code
   wrote e = go (ltb (length lent) (length line)) (ltb-false _ _) w.code w.size w.bytes
@@ -153,7 +154,7 @@ module _ (b : List ℕ) (from : ℕ) (lent : List ℕ) where
     put-end h = all out (fits-end b i (length lent - at) h) (sym (take-append-drop at out))
 
     -- the part behind the lines is lent to line i
-    module _ (r : LineAnswer) (left : List ℕ) (w : Writes [] (line_at b i) (take (length out - at) (drop at out)) r left) where
+    module _ (r : Result ℕ LineError) (left : List ℕ) (w : Writes [] (line_at b i) (take (length out - at) (drop at out)) r left) where
       room : length (take (length out - at) (drop at out)) ≡ length lent - at
       room = ap length (part out at) ∙ length-drop at out ∙ ap (λ (n : ℕ). n - at) P.same
 

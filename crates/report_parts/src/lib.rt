@@ -4,13 +4,13 @@
 #![tactic(auto)]
 
 ghost use Rattle.std.specs.Prelude.{◌≡◌, [], ◌<◌};
-ghost use Rattle.net.specs.Held.{net_in, Held};
-ghost use Rattle.replay.specs.Ready.{Ready};
+ghost use Rattle.net.specs.Held.{net_in};
 ghost use Rattle.lines.specs.Answer.{Writes};
 ghost use Rattle.report_parts.specs.Parts.{lines_on, lines_in, line_at, Puts};
 
-use lines::LineAnswer;
-use net::NetWords;
+use lines::LineError;
+use net_lookup::LoadedNet;
+use replay_stored::Trail;
 use report::trail::{act_line, jump_line, place_line, trail_line};
 
 // Lines that were put into a lent part: the number of the line behind them, and how many bytes they take.
@@ -22,48 +22,45 @@ pub struct Part {
 
 // How many lines the report has: the trail's, one for each place and activity, and one for each pair of places, which is
 // empty where the pair has no jumps.
-pub fn line_count(t: &NetWords) -> u32
-    requires { Held t.now }
-    ensures { result ≡ lines_on (net_in t.now) }
+pub fn line_count(net: &LoadedNet) -> u32
+    ensures { result ≡ lines_on (net_in net.now.words.now) }
 {
-    let places = net_lookup::places(t) as u32;
-    let acts = net_lookup::acts(t) as u32;
+    let places = net.places() as u32;
+    let acts = net.acts() as u32;
     1 + places + acts + places * places
 }
 
 // Line i of the report.
-fn line(rec: &[u8], t: &NetWords, i: u32, out: &mut [u8]) -> LineAnswer
-    requires ready { Ready t.now rec.now }
-    requires known_line { i < lines_in rec.now }
-    ensures { Writes [] (line_at rec.now i) out.old result out.new }
+fn line(trail: &Trail, i: u32, out: &mut [u8]) -> Result<usize, LineError>
+    requires known_line { i < lines_in trail.now.rec.now }
+    ensures { Writes [] (line_at trail.now.rec.now i) out.old result out.new }
 {
     if i == 0 {
-        return trail_line(rec, t, out);
+        return trail_line(trail, out);
     }
-    let places = net_lookup::places(t) as u32;
+    let places = trail.net.places() as u32;
     let q = i - 1;
     if q < places {
-        return place_line(rec, t, q, out);
+        return place_line(trail, q, out);
     }
-    let acts = net_lookup::acts(t) as u32;
+    let acts = trail.net.acts() as u32;
     let a = q - places;
     if a < acts {
-        return act_line(rec, t, a, out);
+        return act_line(trail, a, out);
     }
     let k = a - acts;
-    jump_line(rec, t, k / places, k % places, out)
+    jump_line(trail, k / places, k % places, out)
 }
 
 // The lines from line `from` on, one behind the other, up to the first that does not fit.
-pub fn put_lines(rec: &[u8], t: &NetWords, from: u32, out: &mut [u8]) -> Part
-    requires { Ready t.now rec.now }
-    ensures { Puts rec.now from out.old result out.new }
+pub fn put_lines(trail: &Trail, from: u32, out: &mut [u8]) -> Part
+    ensures { Puts trail.now.rec.now from out.old result out.new }
 {
-    let n = line_count(t);
+    let n = line_count(&trail.net);
     let mut i = from;
     let mut at = 0;
     while i < n {
-        let LineAnswer::Written(size) = line(rec, t, i, &mut out[at..]) else {
+        let Ok(size) = line(trail, i, &mut out[at..]) else {
             return Part { next: i, size: at };
         };
         at += size;

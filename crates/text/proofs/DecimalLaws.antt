@@ -1,13 +1,15 @@
 -- Laws of `decimal`: one digit, one digit more, and how many at most. Assumes nothing.
 use mathlib.Core.Path.{◌≡◌, refl, ap, ◌∙◌}
 use mathlib.Core.Bool.{Bool, true, false}
-use mathlib.Core.List.{[], ◌∷◌, ◌++◌}
+use mathlib.Core.List.{List, [], ◌∷◌, ◌++◌}
 use Prim.Native.Nat.{ℕ, zero, suc, ◌+◌, ◌/◌, ◌%◌, ◌^◌, ◌<◌, ◌≤◌}
 use native.Mathlib.Nat.{not-suc-le-zero, pow-suc}
 use native.Mathlib.Omega.{arith}
 use lib.Dec.{ltb}
-use lib.ListN.{length, length-append}
+use lib.ListN.{length, set, length-append}
 use borrow.Author.Tests.{lt-ltb, le-ltb, ltb-true, ltb-false}
+use Rattle.words.specs.Lists.{over}
+use Rattle.words.proofs.Over.{over-more}
 use Rattle.text.specs.Decimal.{digits_in, decimal}
 
 split : {P : Type 0} (b : Bool) → (b ≡ true → P) → (b ≡ false → P) → P
@@ -54,3 +56,12 @@ digits_are (suc k) n h =
 
 pub short : (k n : ℕ) → n < 10 ^ suc k → length (decimal n) ≤ suc k
 short k n h = rw (digits_are k n h) (at_most (suc k) n)
+
+-- a digit more is one of at most 20 in 64 bits
+pub word_short : (n : ℕ) → 10 ≤ n → n < 2 ^ 64 → length (decimal (n / 10)) ≤ 19
+word_short n h w = omega (arith, one_more n h, short 19 n (omega arith))
+
+-- the last digit written behind the others
+pub last_digit : (n : ℕ) (xs : List ℕ) → 10 ≤ n → length (decimal n) ≤ length xs
+    → set (over (decimal (n / 10)) xs) (length (decimal (n / 10))) (48 + n % 10) ≡ over (decimal n) xs
+last_digit n xs h fits = rw (more n h) (over-more (decimal (n / 10)) xs (48 + n % 10) (omega (arith, one_more n h)))

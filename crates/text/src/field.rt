@@ -1,11 +1,9 @@
 // The words that lines begin with, and their fields.
 
-ghost use Rattle.std.specs.Prelude.{◌≡◌, ◌∷◌, ◌≤◌, length, take, drop};
+ghost use Rattle.std.specs.Prelude.{◌≡◌, ◌≤◌, length};
 ghost use Rattle.words.specs.Lists.{over};
-ghost use Rattle.text.specs.Text.{ascii};
-ghost use Rattle.text.specs.Decimal.{decimal};
-ghost use Rattle.fitness.specs.Fitness.{fitness, fitness_text};
 ghost use Rattle.text.specs.Fields.{word_text, field_text};
+ghost use Rattle.text.specs.declared.field.Field.TheVariants.{Number};
 
 // The first word of a line.
 #[derive(Clone, Copy)]
@@ -27,30 +25,33 @@ pub enum Field {
     Fitness(u32, u32),
 }
 
+// A number of 32 bits is a field.
+impl From<u32> for Field {
+    ghost from_gives = { λ n f. f ≡ Number n };
+
+    fn from(n: u32) -> Field {
+        Field::Number(n as u64)
+    }
+}
+
+// The word's bytes.
+fn word_bytes(w: Word) -> &'static [u8]
+    ensures { result.now ≡ word_text w }
+{
+    match w {
+        Word::Trail => b"trail",
+        Word::Place => b"place",
+        Word::Act => b"act",
+        Word::Jump => b"jump",
+        Word::Refused => b"refused",
+    }
+}
+
 // How many bytes the word takes.
 pub fn word_width(w: Word) -> usize
     ensures { (result ≡ length (word_text w)) × (result ≤ 7) }
 {
-    match w {
-        Word::Trail => 5,
-        Word::Place => 5,
-        Word::Act => 3,
-        Word::Jump => 4,
-        Word::Refused => 7,
-    }
-}
-
-// Where the word starts among the bytes of all words, one behind the other.
-fn word_start(w: Word) -> usize
-    ensures { (result ≤ 17) × (take (length (word_text w)) (drop result (ascii "trailplaceactjumprefused")) ≡ word_text w) }
-{
-    match w {
-        Word::Trail => 0,
-        Word::Place => 5,
-        Word::Act => 10,
-        Word::Jump => 13,
-        Word::Refused => 17,
-    }
+    word_bytes(w).len()
 }
 
 // The word at the start of a lent part, and how many bytes it takes.
@@ -58,11 +59,9 @@ pub fn put_word(w: Word, out: &mut [u8]) -> usize
     requires { length (word_text w) ≤ length out.old }
     ensures { (result ≡ length (word_text w)) × (out.new ≡ over (word_text w) out.old) }
 {
-    let all: &[u8] = b"trailplaceactjumprefused";
-    let at = word_start(w);
-    let n = word_width(w);
-    out[..n].copy_from_slice(&all[at..at + n]);
-    n
+    let word = word_bytes(w);
+    out[..word.len()].copy_from_slice(word);
+    word.len()
 }
 
 // How many bytes a field takes, with the space before it.
@@ -76,24 +75,6 @@ pub fn field_width(f: Field) -> usize
     }
 }
 
-// A space, and a number's digits in the part behind it.
-fn put_number(n: u64, out: &mut [u8]) -> usize
-    requires { length (32 ∷ decimal n) ≤ length out.old }
-    ensures { (result ≡ length (32 ∷ decimal n)) × (out.new ≡ over (32 ∷ decimal n) out.old) }
-{
-    out[0] = 32;
-    1 + crate::decimal::put(n, &mut out[1..])
-}
-
-// A space, and FIT in the part behind it.
-fn put_fitness(jumps: u32, transfers: u32, out: &mut [u8]) -> usize
-    requires { length (32 ∷ fitness_text (fitness jumps transfers)) ≤ length out.old }
-    ensures { (result ≡ length (32 ∷ fitness_text (fitness jumps transfers))) × (out.new ≡ over (32 ∷ fitness_text (fitness jumps transfers)) out.old) }
-{
-    out[0] = 32;
-    1 + fitness::put(jumps, transfers, &mut out[1..])
-}
-
 // The field at the start of a lent part, and how many bytes it takes.
 pub fn put_field(f: Field, out: &mut [u8]) -> usize
     requires { length (field_text f) ≤ length out.old }
@@ -101,7 +82,13 @@ pub fn put_field(f: Field, out: &mut [u8]) -> usize
 {
     match f {
         Field::Nothing => 0,
-        Field::Number(n) => put_number(n, out),
-        Field::Fitness(jumps, transfers) => put_fitness(jumps, transfers, out),
+        Field::Number(n) => {
+            out[0] = b' ';
+            1 + crate::decimal::put(n, &mut out[1..])
+        }
+        Field::Fitness(jumps, transfers) => {
+            out[0] = b' ';
+            1 + fitness::put(jumps, transfers, &mut out[1..])
+        }
     }
 }

@@ -10,14 +10,14 @@ use Rattle.lines.proofs.write_line.Goals as goal
 pub returns-then-out-n : goal.returns-then-out-n
 returns-then-out-n c =
     let a = c.args in
-    no_room (line_of a.w a.fs) a.out.now (omega (arith, line-length a.w a.fs))
+    no_room (line_of a.w a.fs.now) a.out.now (omega (arith, line-length a.w a.fs.now))
 
 pub returns : goal.returns
 unfolding line_of
 returns c =
     let a = c.args in
-    let n = line-length a.w a.fs in
-    with-room (line_of a.w a.fs) a.out.now _ _ (omega (arith, n)) (omega (arith, n)) (omega arith)
-    (part-back c.put_word-at.new.out c.put_word-at.result (fields_text a.fs) _ c.put_fields.ensures
-    ∙ ap (λ xs. over_at c.put_word-at.result (fields_text a.fs) xs) c.put_word-at.ensures.1
-    ∙ behind-start c.put_word-at.result (word_text a.w) (fields_text a.fs) a.out.now c.put_word-at.ensures.0 (omega arith))
+    let n = line-length a.w a.fs.now in
+    with-room (line_of a.w a.fs.now) a.out.now _ _ (omega (arith, n)) (omega (arith, n)) (omega arith)
+    (part-back c.put_word-at.new.out c.put_word-at.result (fields_text a.fs.now) _ c.put_fields.ensures
+    ∙ ap (λ xs. over_at c.put_word-at.result (fields_text a.fs.now) xs) c.put_word-at.ensures.1
+    ∙ behind-start c.put_word-at.result (word_text a.w) (fields_text a.fs.now) a.out.now c.put_word-at.ensures.0 (omega arith))

@@ -7,7 +7,7 @@ use Rattle.report_parts.proofs.PutLaws.{Putting}
 use Rattle.report_parts.proofs.put_lines.Given as goal
 
 abbrev pub invariant-loop-i : goal.invariant-loop-i
-invariant-loop-i l = (l.n ≡ lines_in l.rec) × Putting l.rec l.from l.initial.out l.i l.at l.out
+invariant-loop-i l = (l.n ≡ lines_in l.trail.rec.now) × Putting l.trail.rec.now l.from l.initial.out l.i l.at l.out
 
 abbrev pub decreases-loop-i : goal.decreases-loop-i
 decreases-loop-i l = l.n - l.i

@@ -1,27 +1,28 @@
 -- An unknown number is refused, and else the line of the counts that were read is written.
 -- Assumes nothing.
 use mathlib.Core.Path.{refl, ap, sym, ◌∙◌}
+use Rattle.std.specs.Prelude.{Err}
 use native.Mathlib.Omega.{arith}
 use Rattle.replay_counts.specs.Reads.{act_tests, act_code, act_read_code}
 use Rattle.report.specs.TrailLines.{act_line_at}
-use Rattle.lines.specs.declared.LineAnswer.TheVariants.{UnknownActivity}
+use Rattle.lines.specs.declared.LineError.TheVariants.{UnknownActivity}
 use Rattle.lines.proofs.LineLaws.{same_line, refused, passed}
 use Rattle.report.proofs.TrailLaws.{act-counts}
 use Rattle.report.proofs.trail.act_line.Goals as goal
 
-pub returns-in-Unknown : goal.returns-in-Unknown
+pub returns-in-None : goal.returns-in-None
 unfolding act_code
-returns-in-Unknown c =
+returns-in-None c =
     let a = c.args in
-    let e = sym (ap act_read_code c.in-Unknown.is) ∙ c.read_act.ensures.code in
-    refused (act_line_at a.rec.now a.a) a.out.now (act_tests a.rec.now a.a) UnknownActivity e (omega arith) refl
+    let e = sym (ap act_read_code c.in-None.is) ∙ c.read_act.ensures.code in
+    refused (act_line_at a.trail.now.rec.now a.a) a.out.now (act_tests a.trail.now.rec.now a.a) (Err UnknownActivity) e (omega arith) refl
 
-pub returns-in-Counts : goal.returns-in-Counts
+pub returns-in-Some : goal.returns-in-Some
 unfolding act_code
-returns-in-Counts c =
+returns-in-Some c =
     let a = c.args in
     let r = c.read_act in
-    let told = c.in-Counts.is in
+    let told = c.in-Some.is in
     let e = sym r.ensures.code ∙ ap act_read_code told in
-    passed (act_line_at a.rec.now a.a) a.out.now (act_tests a.rec.now a.a) _ _ e (omega arith, tt)
-    (same_line (act-counts a.rec.now a.a c.in-Counts.k (sym r.ensures.answer ∙ told)) c.act_line.ensures)
+    passed (act_line_at a.trail.now.rec.now a.a) a.out.now (act_tests a.trail.now.rec.now a.a) _ _ e (omega arith, tt)
+    (same_line (act-counts a.trail.now.rec.now a.a c.in-Some.k (sym r.ensures.answer ∙ told)) c.act_line.ensures)

@@ -1,27 +1,28 @@
 -- An unknown number is refused, and else the line of the counts that were read is written.
 -- Assumes nothing.
 use mathlib.Core.Path.{refl, ap, sym, ◌∙◌}
+use Rattle.std.specs.Prelude.{Err}
 use native.Mathlib.Omega.{arith}
 use Rattle.replay_counts.specs.Reads.{pair_tests, pair_code, pair_read_code}
 use Rattle.report.specs.TrailLines.{jump_line_at}
-use Rattle.lines.specs.declared.LineAnswer.TheVariants.{UnknownPlace}
+use Rattle.lines.specs.declared.LineError.TheVariants.{UnknownPlace}
 use Rattle.lines.proofs.LineLaws.{same_line, refused, passed}
 use Rattle.report.proofs.TrailLaws.{pair-count}
 use Rattle.report.proofs.trail.jump_line.Goals as goal
 
-pub returns-in-Unknown : goal.returns-in-Unknown
+pub returns-in-None : goal.returns-in-None
 unfolding pair_code
-returns-in-Unknown c =
+returns-in-None c =
     let a = c.args in
-    let e = sym (ap pair_read_code c.in-Unknown.is) ∙ c.read_pair.ensures.code in
-    refused (jump_line_at a.rec.now a.from a.to) a.out.now (pair_tests a.rec.now a.from a.to) UnknownPlace e (omega arith) refl
+    let e = sym (ap pair_read_code c.in-None.is) ∙ c.read_pair.ensures.code in
+    refused (jump_line_at a.trail.now.rec.now a.from a.to) a.out.now (pair_tests a.trail.now.rec.now a.from a.to) (Err UnknownPlace) e (omega arith) refl
 
-pub returns-in-Count : goal.returns-in-Count
+pub returns-in-Some : goal.returns-in-Some
 unfolding pair_code
-returns-in-Count c =
+returns-in-Some c =
     let a = c.args in
     let r = c.read_pair in
-    let told = c.in-Count.is in
+    let told = c.in-Some.is in
     let e = sym r.ensures.code ∙ ap pair_read_code told in
-    passed (jump_line_at a.rec.now a.from a.to) a.out.now (pair_tests a.rec.now a.from a.to) _ _ e (omega arith, (omega arith, tt))
-    (same_line (pair-count a.rec.now a.from a.to c.in-Count.n (sym r.ensures.answer ∙ told)) c.jump_line.ensures)
+    passed (jump_line_at a.trail.now.rec.now a.from a.to) a.out.now (pair_tests a.trail.now.rec.now a.from a.to) _ _ e (omega arith, (omega arith, tt))
+    (same_line (pair-count a.trail.now.rec.now a.from a.to c.in-Some.n (sym r.ensures.answer ∙ told)) c.jump_line.ensures)

@@ -8,4 +8,4 @@ pub returns : goal.returns
 returns c =
     let a = c.args in
     let r = c.read_trail-k in
-    same_line (trail-counts a.rec.now r.result r.ensures) c.trail_line.ensures
+    same_line (trail-counts a.trail.now.rec.now r.result r.ensures) c.trail_line.ensures
