@@ -18,26 +18,32 @@ ghost use Rattle.client_calls.specs.Client.{ask_answer, ask_leaves, save_answer,
 use client_answers::{close_code, event_code, pack};
 use client_check::check::checked;
 use client_check::objects::whole_rows;
-use net::{NET_WORDS, NetWords};
+use net::NET_WORDS;
+use net_lookup::LoadedNet;
+use replay_moves::TrailMut;
 
 // An event on a checked trail, whose objects are the numbers of the rows.
-fn put_rows(trail: &mut [u8], t: &NetWords, activity: u32, rows: &[u8]) -> u64
-    requires { Ready t.now trail.old }
-    ensures { (result ≡ packed (ask_code trail.old (ask_event activity (words_of rows.now))) 0) × (trail.new ≡ ask_bytes trail.old (ask_event activity (words_of rows.now))) }
+fn put_rows(rec: &mut [u8], net: &LoadedNet, activity: u32, rows: &[u8]) -> u64
+    requires { Ready net.now.words.now rec.old }
+    ensures { (result ≡ packed (ask_code rec.old (ask_event activity (words_of rows.now))) 0) × (rec.new ≡ ask_bytes rec.old (ask_event activity (words_of rows.now))) }
 {
-    pack(event_code(replay_event::event(trail, t, activity, rows)), 0)
+    let mut trail = TrailMut { rec, net: *net };
+    pack(
+        event_code(replay_event::event(&mut trail, activity, rows)),
+        0,
+    )
 }
 
 // An event with a list of objects: its rows, or nine objects for a list of no whole rows or over eight.
-fn put_event(trail: &mut [u8], t: &NetWords, activity: u32, objects: &[u8]) -> u64
-    requires { Ready t.now trail.old }
+fn put_event(trail: &mut [u8], net: &LoadedNet, activity: u32, objects: &[u8]) -> u64
+    requires { Ready net.now.words.now trail.old }
     ensures { (result ≡ packed (ask_code trail.old (ask_event activity (objects_in objects.now))) 0) × (trail.new ≡ ask_bytes trail.old (ask_event activity (objects_in objects.now))) }
 {
     if whole_rows(objects) {
-        return put_rows(trail, t, activity, objects);
+        return put_rows(trail, net, activity, objects);
     }
     let nine = [0u8; 36];
-    put_rows(trail, t, activity, &nine)
+    put_rows(trail, net, activity, &nine)
 }
 
 // An event: 21 to 27, or carried out in the trail's bytes.
@@ -50,15 +56,17 @@ pub fn event(trail: &mut [u8], activity: u32, objects: &[u8]) -> u64
     if refused != 0 {
         return refused;
     }
-    put_event(trail, &t, activity, objects)
+    let net = LoadedNet { words: &t };
+    put_event(trail, &net, activity, objects)
 }
 
 // The close of a checked trail.
-fn put_close(trail: &mut [u8], t: &NetWords) -> u64
-    requires { Ready t.now trail.old }
-    ensures { (result ≡ packed (ask_code trail.old ask_close) 0) × (trail.new ≡ ask_bytes trail.old ask_close) }
+fn put_close(rec: &mut [u8], net: &LoadedNet) -> u64
+    requires { Ready net.now.words.now rec.old }
+    ensures { (result ≡ packed (ask_code rec.old ask_close) 0) × (rec.new ≡ ask_bytes rec.old ask_close) }
 {
-    pack(close_code(replay_close::close(trail, t)), 0)
+    let mut trail = TrailMut { rec, net: *net };
+    pack(close_code(replay_close::close(&mut trail)), 0)
 }
 
 // The close: 31, or carried out in the trail's bytes.
@@ -71,7 +79,8 @@ pub fn close(trail: &mut [u8]) -> u64
     if refused != 0 {
         return refused;
     }
-    put_close(trail, &t)
+    let net = LoadedNet { words: &t };
+    put_close(trail, &net)
 }
 
 // The record of a checked trail.

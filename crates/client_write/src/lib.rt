@@ -11,8 +11,10 @@ ghost use Rattle.client_write.specs.Asked.{line_tests, line_text, line_numbers};
 
 use client_answers::written;
 use client_check::check::checked;
-use lines::LineAnswer;
+use lines::LineError;
 use net::{NET_WORDS, NetWords};
+use net_lookup::LoadedNet;
+use replay_stored::Trail;
 
 // Which line: that of the trail, of a place, of an activity, or of the jumps from one place to another.
 #[derive(Drop)]
@@ -24,28 +26,42 @@ pub enum Line {
 }
 
 // The line itself, for a trail that is checked.
-fn put_text(trail: &[u8], t: &NetWords, which: Line, out: &mut [u8]) -> LineAnswer
-    requires { Ready t.now trail.now }
-    ensures { Writes (line_tests trail.now which) (line_text trail.now which) out.old result out.new }
+fn put_text<'a>(
+    rec: &'a [u8],
+    t: &'a NetWords,
+    which: Line,
+    out: &mut [u8],
+) -> Result<usize, LineError>
+    requires { Ready t.now rec.now }
+    ensures { Writes (line_tests rec.now which) (line_text rec.now which) out.old result out.new }
 {
+    let net = LoadedNet { words: t };
+    let trail = &Trail { rec, net };
     match which {
-        Line::Trail => report::trail::trail_line(trail, t, out),
-        Line::Place(q) => report::trail::place_line(trail, t, q, out),
-        Line::Act(a) => report::trail::act_line(trail, t, a, out),
-        Line::Jump(x, y) => report::trail::jump_line(trail, t, x, y, out),
+        Line::Trail => report::trail::trail_line(trail, out),
+        Line::Place(q) => report::trail::place_line(trail, q, out),
+        Line::Act(a) => report::trail::act_line(trail, a, out),
+        Line::Jump(x, y) => report::trail::jump_line(trail, x, y, out),
     }
 }
 
 // Its whole numbers, for a trail that is checked.
-fn put_numbers(trail: &[u8], t: &NetWords, which: Line, out: &mut [u8]) -> LineAnswer
-    requires { Ready t.now trail.now }
-    ensures { Writes (line_tests trail.now which) (line_numbers trail.now which) out.old result out.new }
+fn put_numbers<'a>(
+    rec: &'a [u8],
+    t: &'a NetWords,
+    which: Line,
+    out: &mut [u8],
+) -> Result<usize, LineError>
+    requires { Ready t.now rec.now }
+    ensures { Writes (line_tests rec.now which) (line_numbers rec.now which) out.old result out.new }
 {
+    let net = LoadedNet { words: t };
+    let trail = &Trail { rec, net };
     match which {
-        Line::Trail => client_counts::trail_numbers(trail, t, out),
-        Line::Place(q) => client_counts::place_numbers(trail, t, q, out),
-        Line::Act(a) => client_counts::act_numbers(trail, t, a, out),
-        Line::Jump(x, y) => client_counts::pair_numbers(trail, t, x, y, out),
+        Line::Trail => client_counts::trail_numbers(trail, out),
+        Line::Place(q) => client_counts::place_numbers(trail, q, out),
+        Line::Act(a) => client_counts::act_numbers(trail, a, out),
+        Line::Jump(x, y) => client_counts::pair_numbers(trail, x, y, out),
     }
 }
 

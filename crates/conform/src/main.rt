@@ -13,6 +13,7 @@ ghost use Rattle.program_output.specs.Ending.{Printable};
 ghost use Rattle.program_text.specs.FromFile.{FromFile};
 
 use net::{MAX_TABLE, NET_WORDS, NetWords};
+use net_lookup::LoadedNet;
 use program_input::{has_arguments, read_file};
 use program_open::read_trail;
 use program_output::{Ending, print};
@@ -40,14 +41,16 @@ fn decide<R: Read>(input: &mut R, table: &[u8], t: &mut NetWords, rec: &mut [u8]
     ensures text { FromFile table.now [] 0 result rec.new }
     ensures printable { Printable t.new rec.new result }
 {
-    let number = net::code(net_loader::load_fresh(table, t));
-    if number != 0 {
-        return Ending::Refused {
-            code: number,
+    match net_loader::load_fresh(table, t) {
+        Ok(()) => {
+            let net = LoadedNet { words: t };
+            read_trail(input, table, &net, rec)
+        }
+        Err(refused) => Ending::Refused {
+            code: refused.number(),
             events: 0,
-        };
+        },
     }
-    read_trail(input, table, t, rec)
 }
 
 // Reads the table file, of which one byte more than a table may have is enough to refuse it, and prints what is to be printed.

@@ -14,7 +14,8 @@ use Rattle.text.specs.declared.field.Field.TheVariants as field
 use Rattle.text.proofs.DecimalLaws.{short}
 use Rattle.report_lines.specs.ReportLines.{refused_line}
 use Rattle.lines.specs.Answer.{size_of, line_code, Writes}
-use Rattle.lines.specs.declared.LineAnswer.{LineAnswer}
+use Rattle.std.specs.Prelude.{Result}
+use Rattle.lines.specs.declared.LineError.{LineError}
 use Rattle.lines.proofs.LineLaws.{line-length}
 
 module _ (code events : ℕ) (code-fits : code < 4294967296) (events-fit : events < 4294967296) where
@@ -28,7 +29,7 @@ module _ (code events : ℕ) (code-fits : code < 4294967296) (events-fit : event
     short 9 events (omega arith),
   )
 
-  pub refusal-written : (lent : List ℕ) (r : LineAnswer) (left : List ℕ) → 64 ≤ length lent → Writes [] (refused_line code events) lent r left
+  pub refusal-written : (lent : List ℕ) (r : Result ℕ LineError) (left : List ℕ) → 64 ≤ length lent → Writes [] (refused_line code events) lent r left
       → IsPrefixLen (size_of r) left × (take (size_of r) left ≡ refused_line code events)
   unfolding line_code
   refusal-written lent r left e W =

@@ -9,12 +9,12 @@
 ghost use Rattle.std.specs.Prelude.{◌≡◌, ◌≤◌, IsTrue, length, take};
 ghost use Rattle.std.specs.Io.KnownBytes.{Appends};
 ghost use Rattle.program_input.specs.Counts.{IsPrefixLen};
-ghost use Rattle.replay.specs.Ready.{Ready};
 ghost use Rattle.report.specs.Report.{report_at};
 ghost use Rattle.program_output.specs.Ending.{refusal_text, ending_text, Printable};
 
-use lines::size;
 use net::NetWords;
+use net_lookup::LoadedNet;
+use replay_stored::Trail;
 use report_parts::{line_count, put_lines};
 use std::io::Write;
 
@@ -35,7 +35,9 @@ fn refusal_line(ending: Ending, out: &mut [u8]) -> usize
 {
     match ending {
         Ending::Report(_) => 0,
-        Ending::Refused { code, events } => size(report_lines::refused_line(code, events, out)),
+        Ending::Refused { code, events } => report_lines::refused_line(code, events, out).unwrap_or(
+            0,
+        ),
     }
 }
 
@@ -50,15 +52,14 @@ fn print_refusal<W: Write>(to: &mut W, ending: Ending) -> bool
 
 // Prints the whole report, in parts of as many lines as fit the buffer (`parts_are` of `report_parts` says the same of the parts).
 // Gives whether all of it was written; it stops where a part was not.
-fn print_report<W: Write>(to: &mut W, rec: &[u8], t: &NetWords) -> bool
-    requires { Ready t.now rec.now }
-    ensures { IsTrue result → Appends (W.contents to.old) (W.contents to.new) (report_at rec.now) }
+fn print_report<W: Write>(to: &mut W, trail: &Trail) -> bool
+    ensures { IsTrue result → Appends (W.contents to.old) (W.contents to.new) (report_at trail.now.rec.now) }
 {
     let mut out = [0u8; 4096];
-    let n = line_count(t);
+    let n = line_count(&trail.net);
     let mut i = 0;
     while i < n {
-        let part = put_lines(rec, t, i, &mut out);
+        let part = put_lines(trail, i, &mut out);
         let size = part.size;
         if !to.write_all(&out[..size]).is_ok() {
             return false;
@@ -69,12 +70,19 @@ fn print_report<W: Write>(to: &mut W, rec: &[u8], t: &NetWords) -> bool
 }
 
 // Prints what is to be printed; `rec` are the bytes lent for the trail. Gives whether all of it was written.
-pub fn print<W: Write>(to: &mut W, ending: Ending, rec: &[u8], t: &NetWords) -> bool
+pub fn print<'a, W: Write>(to: &mut W, ending: Ending, rec: &'a [u8], t: &'a NetWords) -> bool
     requires { Printable t.now rec.now ending }
     ensures { IsTrue result → Appends (W.contents to.old) (W.contents to.new) (ending_text ending rec.now) }
 {
     match ending {
-        Ending::Report(n) => print_report(to, &rec[..n], t),
+        Ending::Report(n) => {
+            let net = LoadedNet { words: t };
+            let trail = Trail {
+                rec: &rec[..n],
+                net,
+            };
+            print_report(to, &trail)
+        }
         Ending::Refused { code: _, events: _ } => print_refusal(to, ending),
     }
 }

@@ -5,11 +5,16 @@
 
 ghost use Rattle.std.specs.Prelude.{◌≡◌, ◌≤◌, length};
 ghost use Rattle.net.specs.Held.{net_in};
+ghost use Rattle.words.specs.Words.{words_of};
+ghost use Rattle.replay.specs.Plain.{ask_event};
+ghost use Rattle.replay.specs.Calls.{ask_code, ask_bytes};
+ghost use Rattle.replay.specs.Ready.{Ready};
 ghost use Rattle.replay.specs.Register.{kinds_in};
 ghost use Rattle.program_step.specs.Follows.{Follows};
 ghost use Rattle.program_step.specs.OneStep.{stops, step_trail, step_outcome};
 
-use net::NetWords;
+use net_lookup::LoadedNet;
+use replay_moves::TrailMut;
 use trace_reader::{Cursor, Found};
 use words::wide;
 
@@ -39,24 +44,34 @@ fn stopped(spot: Spot, code: u32) -> Outcome
     }
 }
 
+// Carries out an event to which none of 21 to 27 applies.
+fn take(rec: &mut [u8], net: &LoadedNet, act: u32, objs: &[u8])
+    requires ready { Ready net.now.words.now rec.old }
+    requires accepted { ask_code rec.old (ask_event act (words_of objs.now)) ≡ 0 }
+    ensures { rec.new ≡ ask_bytes rec.old (ask_event act (words_of objs.now)) }
+{
+    let mut trail = TrailMut { rec, net: *net };
+    replay_event::apply(&mut trail, act, objs);
+}
+
 // Reads one event at the spot and carries it out.
 pub fn step(
     rec: &mut [u8],
-    t: &NetWords,
+    net: &LoadedNet,
     register: &[u8],
     body: usize,
     window: &[u8],
     spot: Spot,
 ) -> Outcome
-    requires follows { Follows t.now rec.old register.now spot.accepted }
+    requires follows { Follows net.now.words.now rec.old register.now spot.accepted }
     requires inside { spot.from ≤ length window.now }
-    ensures trail { rec.new ≡ step_trail (net_in t.now) (kinds_in (net_in t.now) register.now) window.now body rec.old spot }
-    ensures outcome { result ≡ step_outcome (net_in t.now) (kinds_in (net_in t.now) register.now) window.now body spot }
+    ensures trail { rec.new ≡ step_trail (net_in net.now.words.now) (kinds_in (net_in net.now.words.now) register.now) window.now body rec.old spot }
+    ensures outcome { result ≡ step_outcome (net_in net.now.words.now) (kinds_in (net_in net.now.words.now) register.now) window.now body spot }
 {
     let from = spot.from;
     let accepted = spot.accepted;
     let cursor = Cursor { at: spot.at };
-    let answer = cursor.read_window(&window[from..], body, accepted, register, t);
+    let answer = cursor.read_window(&window[from..], body, accepted, register, net);
     let found = answer.found;
     match found {
         Found::End => stopped(spot, 0),
@@ -68,7 +83,7 @@ pub fn step(
             let act = event.activity;
             let first = from + 8;
             let last = first + 4 * n;
-            replay_event::apply(rec, t, act, &window[first..last]);
+            take(rec, net, act, &window[first..last]);
             Outcome {
                 spot: Spot {
                     from: last,

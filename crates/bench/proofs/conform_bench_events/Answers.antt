@@ -10,6 +10,9 @@ returns-then-refused-ne0 c = let a = c.args in
     let k = c.checked-refused.ensures in
     record { answer = stop-answer a.trail.now _ _ k c.if-refused-ne0.true _; trail_after = stop-bytes a.trail.now _ _ k c.if-refused-ne0.true _ a.trail.now }
 
+pub invariant_of-net : goal.invariant_of-net
+invariant_of-net c = record { held = (c.checked-refused.ensures.ready c.if-refused-ne0.false).held }
+
 pub run_events-requires : goal.run_events-requires
 run_events-requires c = c.checked-refused.ensures.ready c.if-refused-ne0.false
 

@@ -1,5 +1,5 @@
 -- The bytes handed on are those of the row's objects. Assumes nothing.
-use mathlib.Core.Path.{◌≡◌, subst, ◌∙◌}
+use mathlib.Core.Path.{◌≡◌, subst}
 use native.Mathlib.Omega.{arith}
 use Rattle.words.proofs.Words.{length-words}
 use Rattle.replay.specs.Plain.{Ask}
@@ -19,10 +19,10 @@ overflow_mul-to c = omega (arith, length-words c.args.events.now)
 pub overflow_add-to : goal.overflow_add-to
 overflow_add-to c = omega (arith, length-words c.args.events.now)
 
-pub slice_bounds-event-end : goal.slice_bounds-event-end
-slice_bounds-event-end c = omega (arith, length-words c.args.events.now)
+pub slice_bounds-put_event-end : goal.slice_bounds-put_event-end
+slice_bounds-put_event-end c = omega (arith, length-words c.args.events.now)
 
 pub returns : goal.returns
-returns c = let k = c.event in
+returns c = let k = c.put_event in
     let q = row_is c.args.events.now c.args.at c.args.count _ c.get_word.ensures c.requires.inside.1 in
-    subst (λ (q : Ask). (c.event_code.result ≡ ask_code c.args.trail.now q) × (k.new.rec ≡ ask_bytes c.args.trail.now q)) q (c.event_code.ensures ∙ k.ensures.0, k.ensures.1)
+    subst (λ (q : Ask). (k.result ≡ ask_code c.args.rec.now q) × (k.new.rec ≡ ask_bytes c.args.rec.now q)) q k.ensures

@@ -10,7 +10,7 @@ use Rattle.bench.proofs.Rows.{left-start, left_cut, left-refused, left-more}
 use Rattle.bench.proofs.run_events.Goals as goal
 
 pub loop-at-init : goal.loop-at-init
-loop-at-init c = (left-start c.args.t.now c.args.trail.now c.args.events.now c.requires, sym (length-words c.args.events.now), refl)
+loop-at-init c = (left-start c.args.net.now.words.now c.args.trail.now c.args.events.now c.requires, sym (length-words c.args.events.now), refl)
 
 pub returns-then-size-at : goal.returns-then-size-at
 returns-then-size-at c =

@@ -5,4 +5,4 @@ use Rattle.client_counts.proofs.trail_numbers.Goals as goal
 
 pub returns : goal.returns
 returns c = let a = c.args in
-    same_line (trail-read a.rec.now c.read_trail-k.result c.read_trail-k.ensures) c.write_four.ensures
+    same_line (trail-read a.trail.now.rec.now c.read_trail-k.result c.read_trail-k.ensures) c.write_four.ensures

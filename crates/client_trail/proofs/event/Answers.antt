@@ -7,6 +7,9 @@ use Rattle.client_trail.proofs.event.Goals as goal
 pub returns-then-refused-ne0 : goal.returns-then-refused-ne0
 returns-then-refused-ne0 c = let all = ask-stops c.args.trail.now _ _ c.checked-refused.ensures c.if-refused-ne0.true (ask_event c.args.activity (objects_in c.args.objects.now)) in record { answer = all.0; trail_after = all.1 }
 
+pub invariant_of-net : goal.invariant_of-net
+invariant_of-net c = record { held = (c.checked-refused.ensures.ready c.if-refused-ne0.false).held }
+
 pub put_event-requires : goal.put_event-requires
 put_event-requires c = c.checked-refused.ensures.ready c.if-refused-ne0.false
 

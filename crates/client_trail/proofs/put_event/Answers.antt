@@ -15,9 +15,9 @@ Put b a n x xs = (n ≡ packed (ask_code b (ask_event a xs)) 0) × (x ≡ ask_by
 pub returns-then-whole_rows : goal.returns-then-whole_rows
 returns-then-whole_rows c = let a = c.args in
     let k = c.put_rows in
-    subst (Put a.trail.now a.activity k.result k.new.trail) (told-rows a.objects.now _ c.whole_rows.ensures c.if-whole_rows.true) k.ensures
+    subst (Put a.trail.now a.activity k.result k.new.rec) (told-rows a.objects.now _ c.whole_rows.ensures c.if-whole_rows.true) k.ensures
 
 pub returns : goal.returns
 returns c = let a = c.args in
     let k = c.put_rows-2 in
-    subst (Put a.trail.now a.activity k.result k.new.trail) (told-nine a.objects.now _ c.whole_rows.ensures c.if-whole_rows.false) k.ensures
+    subst (Put a.trail.now a.activity k.result k.new.rec) (told-nine a.objects.now _ c.whole_rows.ensures c.if-whole_rows.false) k.ensures

@@ -4,13 +4,13 @@ use Rattle.client_write.proofs.SameLine.{same_line}
 use Rattle.client_write.proofs.put_numbers.Goals as goal
 
 pub returns-in-Trail : goal.returns-in-Trail
-returns-in-Trail c = same_line line_numbers c.args.trail.now _ _ _ _ _ c.in-Trail.is c.trail_numbers.ensures
+returns-in-Trail c = same_line line_numbers c.args.rec.now _ _ _ _ _ c.in-Trail.is c.trail_numbers.ensures
 
 pub returns-in-Place : goal.returns-in-Place
-returns-in-Place c = same_line line_numbers c.args.trail.now _ _ _ _ _ c.in-Place.is c.place_numbers.ensures
+returns-in-Place c = same_line line_numbers c.args.rec.now _ _ _ _ _ c.in-Place.is c.place_numbers.ensures
 
 pub returns-in-Act : goal.returns-in-Act
-returns-in-Act c = same_line line_numbers c.args.trail.now _ _ _ _ _ c.in-Act.is c.act_numbers.ensures
+returns-in-Act c = same_line line_numbers c.args.rec.now _ _ _ _ _ c.in-Act.is c.act_numbers.ensures
 
 pub returns-in-Jump : goal.returns-in-Jump
-returns-in-Jump c = same_line line_numbers c.args.trail.now _ _ _ _ _ c.in-Jump.is c.pair_numbers.ensures
+returns-in-Jump c = same_line line_numbers c.args.rec.now _ _ _ _ _ c.in-Jump.is c.pair_numbers.ensures

@@ -12,7 +12,7 @@ use Rattle.program_events.proofs.all_events.Goals as goal
 pub loop-s-init : goal.loop-s-init
 loop-s-init g c =
     record {
-      read = read-start (net_in c.args.t.now) (kinds_in (net_in c.args.t.now) c.args.register.now) c.args.body c.args.rec.now (take c.args.n c.args.buf.now) (length c.args.buf.now) c.args.buf.now c.args.n c.requires.in_bounds.1 refl refl;
+      read = read-start (net_in c.args.net.now.words.now) (kinds_in (net_in c.args.net.now.words.now) c.args.register.now) c.args.body c.args.rec.now (take c.args.n c.args.buf.now) (length c.args.buf.now) c.args.buf.now c.args.n c.requires.in_bounds.1 refl refl;
       follows = c.requires.followed;
       here = refl;
       within = c.requires.in_bounds.1;
@@ -27,7 +27,7 @@ pub returns-then-s : goal.returns-then-s
 returns-then-s g c =
     let l = c.loop-s in
     let s = c.turn-s in
-    record { all = read-over (net_in c.args.t.now) (kinds_in (net_in c.args.t.now) c.args.register.now) c.args.body c.args.rec.now (take c.args.n c.args.buf.now) (length c.args.buf.now) l.rec l.buf l.there l.start l.invariant.read l.invariant.here l.invariant.within s.new.rec s.result s.ensures.kept c.if-s.true; follows = c.turn-s.ensures.follows }
+    record { all = read-over (net_in c.args.net.now.words.now) (kinds_in (net_in c.args.net.now.words.now) c.args.register.now) c.args.body c.args.rec.now (take c.args.n c.args.buf.now) (length c.args.buf.now) l.rec l.buf l.there l.start l.invariant.read l.invariant.here l.invariant.within s.new.rec s.result s.ensures.kept c.if-s.true; follows = c.turn-s.ensures.follows }
 
 pub loop-s-smaller : goal.loop-s-smaller
 loop-s-smaller g c =
@@ -36,7 +36,7 @@ loop-s-smaller g c =
     let o = c.if-s.false in
     let full = r.full o in
     let more = r.more o (omega (arith, l.invariant.here, l.invariant.size)) in
-    omega (arith, more, events-few c.args.t.now l.rec c.args.register.now l.start.accepted l.invariant.follows)
+    omega (arith, more, events-few c.args.net.now.words.now l.rec c.args.register.now l.start.accepted l.invariant.follows)
 
 pub loop-s-preserved : goal.loop-s-preserved
 loop-s-preserved g c =
@@ -44,7 +44,7 @@ loop-s-preserved g c =
     let s = c.turn-s in
     let f = c.refill-there in
     record {
-      read = read-on (net_in c.args.t.now) (kinds_in (net_in c.args.t.now) c.args.register.now) c.args.body c.args.rec.now (take c.args.n c.args.buf.now) (length c.args.buf.now) l.rec l.buf l.there l.start l.invariant.read l.invariant.here l.invariant.within s.new.rec s.result s.ensures.kept c.if-s.false (s.ensures.turned.full c.if-s.false) s.ensures.inside f.new.buf f.result f.ensures.size.0 f.ensures.kept;
+      read = read-on (net_in c.args.net.now.words.now) (kinds_in (net_in c.args.net.now.words.now) c.args.register.now) c.args.body c.args.rec.now (take c.args.n c.args.buf.now) (length c.args.buf.now) l.rec l.buf l.there l.start l.invariant.read l.invariant.here l.invariant.within s.new.rec s.result s.ensures.kept c.if-s.false (s.ensures.turned.full c.if-s.false) s.ensures.inside f.new.buf f.result f.ensures.size.0 f.ensures.kept;
       follows = c.turn-s.ensures.follows;
       here = refl;
       within = omega arith;

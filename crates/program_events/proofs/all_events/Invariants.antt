@@ -11,8 +11,8 @@ use Rattle.program_events.proofs.all_events.Given as goal
 
 abbrev pub invariant-loop-s : goal.invariant-loop-s
 invariant-loop-s g l = record {
-  read : Read (net_in l.t) (kinds_in (net_in l.t) l.register) l.body l.initial.rec (take l.n l.initial.buf) (length l.initial.buf) l.rec l.buf l.there l.start;
-  follows : Follows l.t l.rec l.register l.start.accepted;
+  read : Read (net_in l.net.words.now) (kinds_in (net_in l.net.words.now) l.register) l.body l.initial.rec (take l.n l.initial.buf) (length l.initial.buf) l.rec l.buf l.there l.start;
+  follows : Follows l.net.words.now l.rec l.register l.start.accepted;
   here : l.start.from ≡ 0;
   within : l.there ≤ length l.buf;
   size : length l.buf ≡ length l.initial.buf;

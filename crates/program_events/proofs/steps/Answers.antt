@@ -46,7 +46,7 @@ advanced size least from at n m first rest room = go (dec_le m n)
 pub loop-spot-init : goal.loop-spot-init
 loop-spot-init c =
     record {
-      kept = kept-start (net_in c.args.t.now) (kinds_in (net_in c.args.t.now) c.args.register.now) c.args.body (Window c.args.window.now c.args.least) c.args.rec.now c.args.start;
+      kept = kept-start (net_in c.args.net.now.words.now) (kinds_in (net_in c.args.net.now.words.now) c.args.register.now) c.args.body (Window c.args.window.now c.args.least) c.args.rec.now c.args.start;
       follows = c.requires.followed;
       inside = c.requires.inside;
       same_length = refl;
@@ -61,14 +61,14 @@ pub returns-then-s : goal.returns-then-s
 returns-then-s c =
     let s = c.step-s in
     let i = c.loop-spot.invariant in
-    let m = made c.args.t.now c.loop-spot.rec c.args.register.now c.args.body c.args.window.now c.args.least c.args.rec.now c.args.start c.loop-spot.spot s.new.rec s.result i.follows i.kept i.inside c.loop-spot-test.true s.ensures.trail s.ensures.outcome in
+    let m = made c.args.net.now.words.now c.loop-spot.rec c.args.register.now c.args.body c.args.window.now c.args.least c.args.rec.now c.args.start c.loop-spot.spot s.new.rec s.result i.follows i.kept i.inside c.loop-spot-test.true s.ensures.trail s.ensures.outcome in
     record { kept = m.kept; follows = m.step.follows; inside = m.step.inside; through = record { rest = λ o. clash (sym c.if-s.true ∙ o); more = λ o h. clash (sym c.if-s.true ∙ o) } }
 
 pub loop-spot-smaller : goal.loop-spot-smaller
 loop-spot-smaller c =
     let s = c.step-s in
     let i = c.loop-spot.invariant in
-    let m = made c.args.t.now c.loop-spot.rec c.args.register.now c.args.body c.args.window.now c.args.least c.args.rec.now c.args.start c.loop-spot.spot s.new.rec s.result i.follows i.kept i.inside c.loop-spot-test.true s.ensures.trail s.ensures.outcome in omega (arith, m.step.more c.if-s.false, m.few)
+    let m = made c.args.net.now.words.now c.loop-spot.rec c.args.register.now c.args.body c.args.window.now c.args.least c.args.rec.now c.args.start c.loop-spot.spot s.new.rec s.result i.follows i.kept i.inside c.loop-spot-test.true s.ensures.trail s.ensures.outcome in omega (arith, m.step.more c.if-s.false, m.few)
 
 pub loop-spot-preserved : goal.loop-spot-preserved
 loop-spot-preserved c =
@@ -76,10 +76,10 @@ loop-spot-preserved c =
     let i = c.loop-spot.invariant in
     let l = c.loop-spot in
     let r = c.step-s in
-    let m = made c.args.t.now c.loop-spot.rec c.args.register.now c.args.body c.args.window.now c.args.least c.args.rec.now c.args.start c.loop-spot.spot s.new.rec s.result i.follows i.kept i.inside c.loop-spot-test.true s.ensures.trail s.ensures.outcome in
+    let m = made c.args.net.now.words.now c.loop-spot.rec c.args.register.now c.args.body c.args.window.now c.args.least c.args.rec.now c.args.start c.loop-spot.spot s.new.rec s.result i.follows i.kept i.inside c.loop-spot-test.true s.ensures.trail s.ensures.outcome in
     let n : r.result.spot.accepted ≡ l.spot.accepted + 1 = m.step.more c.if-s.false in
     record {
-      kept = kept-going (net_in c.args.t.now) (kinds_in (net_in c.args.t.now) c.args.register.now) c.args.body (Window c.args.window.now c.args.least) c.args.rec.now c.args.start r.new.rec r.result m.kept c.if-s.false;
+      kept = kept-going (net_in c.args.net.now.words.now) (kinds_in (net_in c.args.net.now.words.now) c.args.register.now) c.args.body (Window c.args.window.now c.args.least) c.args.rec.now c.args.start r.new.rec r.result m.kept c.if-s.false;
       follows = m.step.follows;
       inside = m.step.inside;
       same_length = omega arith;

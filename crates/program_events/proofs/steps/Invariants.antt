@@ -12,8 +12,8 @@ use Rattle.program_events.proofs.steps.Given as goal
 
 abbrev pub invariant-loop-spot : goal.invariant-loop-spot
 invariant-loop-spot l = record {
-  kept : Kept (net_in l.t) (kinds_in (net_in l.t) l.register) l.body (Window l.window l.least) l.initial.rec l.initial.spot l.rec (going l.spot);
-  follows : Follows l.t l.rec l.register l.spot.accepted;
+  kept : Kept (net_in l.net.words.now) (kinds_in (net_in l.net.words.now) l.register) l.body (Window l.window l.least) l.initial.rec l.initial.spot l.rec (going l.spot);
+  follows : Follows l.net.words.now l.rec l.register l.spot.accepted;
   inside : l.spot.from ≤ length l.window;
   same_length : length l.rec ≡ length l.initial.rec;
   grown : l.initial.spot.accepted ≤ l.spot.accepted;

@@ -18,7 +18,7 @@ steps-requires c = record { followed = c.requires.followed; inside = simp length
 pub returns-then-n-buf : goal.returns-then-n-buf
 returns-then-n-buf c =
     let r = c.steps in record {
-      kept = kept-filled (net_in c.args.t.now) (kinds_in (net_in c.args.t.now) c.args.register.now) c.args.body c.args.buf.now c.args.n (take c.args.n c.args.buf.now) _ c.args.rec.now c.args.start r.new.rec r.result
+      kept = kept-filled (net_in c.args.net.now.words.now) (kinds_in (net_in c.args.net.now.words.now) c.args.register.now) c.args.body c.args.buf.now c.args.n (take c.args.n c.args.buf.now) _ c.args.rec.now c.args.start r.new.rec r.result
           (omega arith) refl (λ l. absurd (omega arith)) r.ensures.kept;
       follows = r.ensures.follows;
       inside = omega (arith, simp length-take at r.ensures.inside);
@@ -31,7 +31,7 @@ steps-requires-2 c = record { followed = search rules; inside = search rules }
 pub returns : goal.returns
 returns c =
     let r = c.steps-2 in record {
-      kept = kept-filled (net_in c.args.t.now) (kinds_in (net_in c.args.t.now) c.args.register.now) c.args.body c.args.buf.now c.args.n c.args.buf.now _ c.args.rec.now c.args.start r.new.rec r.result
+      kept = kept-filled (net_in c.args.net.now.words.now) (kinds_in (net_in c.args.net.now.words.now) c.args.register.now) c.args.body c.args.buf.now c.args.n c.args.buf.now _ c.args.rec.now c.args.start r.new.rec r.result
           (omega arith) (sym (take_all c.args.n c.args.buf.now (omega arith))) (λ l. omega arith) r.ensures.kept;
       follows = r.ensures.follows;
       inside = omega arith;

@@ -14,30 +14,30 @@ use Rattle.program_open.proofs.begin.Goals as goal
 
 pub record_bytes-size-requires : goal.record_bytes-size-requires
 record_bytes-size-requires g c =
-    record { held = c.requires.startable.tabled.held; bounded = (table-few c.args.t.now c.args.table.now c.args.register.now c.requires.startable c.requires.registered, register-rows c.args.t.now c.args.table.now c.args.register.now c.requires.startable c.requires.registered) }
+    record { bounded = (table-few c.args.net.now.words.now c.args.table.now c.args.register.now c.requires.startable c.requires.registered, register-rows c.args.net.now.words.now c.args.table.now c.args.register.now c.requires.startable c.requires.registered) }
 
 pub slice_bounds-follow-end : goal.slice_bounds-follow-end
 slice_bounds-follow-end g c =
-    let size_is : c.record_bytes-size.result ≡ length (start_record c.args.table.now (kinds_in (net_of c.args.table.now) c.args.register.now)) = c.record_bytes-size.ensures ∙ sym (record-size c.args.t.now c.args.table.now c.args.register.now c.requires.startable c.requires.registered) in
-    let fits : c.record_bytes-size.result ≤ length c.start.new.rec = omega (arith, size_is, start_fits c.args.t.now c.args.table.now c.args.register.now c.requires.startable c.requires.registered) in
+    let size_is : c.record_bytes-size.result ≡ length (start_record c.args.table.now (kinds_in (net_of c.args.table.now) c.args.register.now)) = c.record_bytes-size.ensures ∙ sym (record-size c.args.net.now.words.now c.args.table.now c.args.register.now c.requires.startable c.requires.registered) in
+    let fits : c.record_bytes-size.result ≤ length c.start.new.rec = omega (arith, size_is, start_fits c.args.net.now.words.now c.args.table.now c.args.register.now c.requires.startable c.requires.registered) in
     fits
 
 pub slice_bounds-follow-end-2 : goal.slice_bounds-follow-end-2
 slice_bounds-follow-end-2 g c =
-    let size_is : c.record_bytes-size.result ≡ length (start_record c.args.table.now (kinds_in (net_of c.args.table.now) c.args.register.now)) = c.record_bytes-size.ensures ∙ sym (record-size c.args.t.now c.args.table.now c.args.register.now c.requires.startable c.requires.registered) in
-    let fits : c.record_bytes-size.result ≤ length c.start.new.rec = omega (arith, size_is, start_fits c.args.t.now c.args.table.now c.args.register.now c.requires.startable c.requires.registered) in
+    let size_is : c.record_bytes-size.result ≡ length (start_record c.args.table.now (kinds_in (net_of c.args.table.now) c.args.register.now)) = c.record_bytes-size.ensures ∙ sym (record-size c.args.net.now.words.now c.args.table.now c.args.register.now c.requires.startable c.requires.registered) in
+    let fits : c.record_bytes-size.result ≤ length c.start.new.rec = omega (arith, size_is, start_fits c.args.net.now.words.now c.args.table.now c.args.register.now c.requires.startable c.requires.registered) in
     simp length-take (omega (arith, fits))
 
 pub follow-requires : goal.follow-requires
 follow-requires g c =
-    let size_is : c.record_bytes-size.result ≡ length (start_record c.args.table.now (kinds_in (net_of c.args.table.now) c.args.register.now)) = c.record_bytes-size.ensures ∙ sym (record-size c.args.t.now c.args.table.now c.args.register.now c.requires.startable c.requires.registered) in
-    let front : take c.record_bytes-size.result c.start.new.rec ≡ start_record c.args.table.now (kinds_in (net_of c.args.table.now) c.args.register.now) = let r = c.start in started c.args.t.now c.args.table.now c.args.register.now c.requires.startable c.requires.registered c.args.rec.now r.new.rec c.record_bytes-size.result c.requires.room r.ensures.rec_after size_is in
-    record { follows = started-follows c.args.t.now c.args.table.now c.args.register.now c.requires.startable c.requires.registered _ front; in_bounds = c.requires.in_bounds }
+    let size_is : c.record_bytes-size.result ≡ length (start_record c.args.table.now (kinds_in (net_of c.args.table.now) c.args.register.now)) = c.record_bytes-size.ensures ∙ sym (record-size c.args.net.now.words.now c.args.table.now c.args.register.now c.requires.startable c.requires.registered) in
+    let front : take c.record_bytes-size.result c.start.new.rec ≡ start_record c.args.table.now (kinds_in (net_of c.args.table.now) c.args.register.now) = let r = c.start in started c.args.net.now.words.now c.args.table.now c.args.register.now c.requires.startable c.requires.registered c.args.rec.now r.new.rec c.record_bytes-size.result c.requires.room r.ensures.rec_after size_is in
+    record { follows = started-follows c.args.net.now.words.now c.args.table.now c.args.register.now c.requires.startable c.requires.registered _ front; in_bounds = c.requires.in_bounds }
 
 pub returns : goal.returns
 returns g c =
-    let size_is : c.record_bytes-size.result ≡ length (start_record c.args.table.now (kinds_in (net_of c.args.table.now) c.args.register.now)) = c.record_bytes-size.ensures ∙ sym (record-size c.args.t.now c.args.table.now c.args.register.now c.requires.startable c.requires.registered) in
-    let front : take c.record_bytes-size.result c.start.new.rec ≡ start_record c.args.table.now (kinds_in (net_of c.args.table.now) c.args.register.now) = let r = c.start in started c.args.t.now c.args.table.now c.args.register.now c.requires.startable c.requires.registered c.args.rec.now r.new.rec c.record_bytes-size.result c.requires.room r.ensures.rec_after size_is in
+    let size_is : c.record_bytes-size.result ≡ length (start_record c.args.table.now (kinds_in (net_of c.args.table.now) c.args.register.now)) = c.record_bytes-size.ensures ∙ sym (record-size c.args.net.now.words.now c.args.table.now c.args.register.now c.requires.startable c.requires.registered) in
+    let front : take c.record_bytes-size.result c.start.new.rec ≡ start_record c.args.table.now (kinds_in (net_of c.args.table.now) c.args.register.now) = let r = c.start in started c.args.net.now.words.now c.args.table.now c.args.register.now c.requires.startable c.requires.registered c.args.rec.now r.new.rec c.record_bytes-size.result c.requires.room r.ensures.rec_after size_is in
     let f = c.follow in
-    let all = begun c.args.t.now c.args.table.now c.args.register.now c.requires.startable c.args.body (take c.args.n c.args.buf.now) (length c.args.buf.now) f.result (take c.record_bytes-size.result c.start.new.rec) f.new.rec (drop c.record_bytes-size.result c.start.new.rec) front f.ensures.ends f.ensures.ready in
+    let all = begun c.args.net.now.words.now c.args.table.now c.args.register.now c.requires.startable c.args.body (take c.args.n c.args.buf.now) (length c.args.buf.now) f.result (take c.record_bytes-size.result c.start.new.rec) f.new.rec (drop c.record_bytes-size.result c.start.new.rec) front f.ensures.ends f.ensures.ready in
     record { text = all.0; printable = all.1 }

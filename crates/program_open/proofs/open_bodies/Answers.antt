@@ -17,5 +17,5 @@ returns-then-most_bytes-claimed g c =
     let e = p.ensures ∙ ap (λ (N : Net). Refused (open_code N c.args.claimed c.skip.result []) 0) c.requires.tabled.net in record {
       text = subst (λ (r : Ending). BehindContents c.args.table.now c.args.claimed c.args.body [] 0 r c.args.rec.now) (sym e)
           (register-passed c.args.table.now c.requires.tabled.taken c.args.claimed c.args.body c.skip.result c.args.rec.now (omega arith));
-      printable = subst (Printable c.args.t.now c.args.rec.now) (sym e) tt;
+      printable = subst (Printable c.args.net.now.words.now c.args.rec.now) (sym e) tt;
     }

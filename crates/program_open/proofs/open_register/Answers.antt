@@ -16,7 +16,7 @@ returns-then-code-ne0 g c =
 
 pub read_events-requires : goal.read_events-requires
 read_events-requires g c =
-    let r = register-startable c.args.t.now c.args.table.now c.args.register.now c.args.claimed (length c.args.register.now) c.requires.tabled c.requires.whole_rows refl c.requires.at_most_claimed (sym c.opening_refusal-code.ensures ∙ c.if-code-ne0.false) in
+    let r = register-startable c.args.net.now.words.now c.args.table.now c.args.register.now c.args.claimed (length c.args.register.now) c.requires.tabled c.requires.whole_rows refl c.requires.at_most_claimed (sym c.opening_refusal-code.ensures ∙ c.if-code-ne0.false) in
     record { startable = r.0; registered = r.1; room = c.requires.room }
 
 pub returns : goal.returns

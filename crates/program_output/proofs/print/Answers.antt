@@ -6,12 +6,17 @@ use Rattle.program_output.specs.Ending.{Printable}
 use Rattle.program_output.specs.declared.Ending.TheVariants.{Report}
 use Rattle.program_output.proofs.print.Goals as goal
 
-pub slice_bounds-print_report-end : goal.slice_bounds-print_report-end
-slice_bounds-print_report-end g c =
+pub slice_bounds-trail-end : goal.slice_bounds-trail-end
+slice_bounds-trail-end g c =
     let asked : Printable c.args.t.now c.args.rec.now (Report c.in-Report.n) = subst (Printable c.args.t.now c.args.rec.now) c.in-Report.is c.requires in
     simp length-take (omega (arith, asked.0))
 
-pub print_report-requires : goal.print_report-requires
-print_report-requires g c =
+pub invariant_of-net : goal.invariant_of-net
+invariant_of-net g c =
     let asked : Printable c.args.t.now c.args.rec.now (Report c.in-Report.n) = subst (Printable c.args.t.now c.args.rec.now) c.in-Report.is c.requires in
-    asked.1
+    record { held = asked.1.held }
+
+pub invariant_of-trail : goal.invariant_of-trail
+invariant_of-trail g c =
+    let asked : Printable c.args.t.now c.args.rec.now (Report c.in-Report.n) = subst (Printable c.args.t.now c.args.rec.now) c.in-Report.is c.requires in
+    record { ready = asked.1 }

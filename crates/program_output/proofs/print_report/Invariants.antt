@@ -9,10 +9,10 @@ use Rattle.program_output.proofs.print_report.Given as goal
 
 abbrev pub invariant-loop-i : goal.invariant-loop-i
 invariant-loop-i g l = record {
-  count : l.n ≡ lines_in l.rec;
+  count : l.n ≡ lines_in l.trail.rec.now;
   room : length l.out ≡ 4096;
   within : l.i ≤ l.n;
-  printed : Appends (g.W.Write.contents l.initial.to) (g.W.Write.contents l.to) (lines_from l.rec l.i 0);
+  printed : Appends (g.W.Write.contents l.initial.to) (g.W.Write.contents l.to) (lines_from l.trail.rec.now l.i 0);
 }
 
 abbrev pub decreases-loop-i : goal.decreases-loop-i
