@@ -12,8 +12,8 @@ fn nearest_one(jumps: u32, transfers: u32) -> u64
     requires { 1 ≤ transfers }
     ensures { result ≡ nearest jumps transfers }
 {
-    let whole = transfers as u64;
-    let kept = transfers.saturating_sub(jumps) as u64;
+    let whole = u64::from(transfers);
+    let kept = u64::from(transfers.saturating_sub(jumps));
     (2000 * kept + whole) / (2 * whole)
 }
 
@@ -60,7 +60,7 @@ fn put_thousandths(n: u32, out: &mut [u8]) -> usize
     requires { (n ≤ 1000) × (5 ≤ length out.old) }
     ensures { (result ≡ 5) × (out.new ≡ over (fitness_text (Some n)) out.old) }
 {
-    let [_, hundreds, tens, units] = digits::code((n % 1000) as usize).to_be_bytes();
+    let [_, hundreds, tens, units] = digits::code(words::wide(n % 1000)).to_be_bytes();
     out[..5].copy_from_slice(&[b'0' + (n / 1000) as u8, b'.', hundreds, tens, units]);
     5
 }

@@ -1,8 +1,8 @@
 -- Writing a line into a lent part: the paper's number and the values for each answer, and what is left of the part.
-use Rattle.std.specs.Prelude.{ℕ, ◌≤◌, Bool, ◌≡◌, Result, Ok, Err, List, [], ◌∷◌, ◌++◌, length, ltb, eqb}
+use Rattle.std.specs.Prelude.{ℕ, ◌≤◌, Bool, ◌≡◌, Result, List, [], ◌∷◌, ◌++◌, length, ltb, eqb}
 use Rattle.std.specs.Result.{result_unwrap_or}
 use Rattle.words.specs.Lists.{pick, over}
-use Rattle.words.specs.Refusals.{first}
+use Rattle.words.specs.Refusals.{first, answer_code}
 use Rattle.lines.specs.declared.LineError.{LineError}
 use Rattle.lines.specs.declared.LineError.TheVariants.{UnknownPlace, UnknownActivity, NoRoom}
 
@@ -14,8 +14,7 @@ line_error_code NoRoom = 61
 
 -- the number of each answer, 0 where the line is written
 abbrev pub line_answer_code : Result ℕ LineError → ℕ
-line_answer_code (Ok n) = 0
-line_answer_code (Err e) = line_error_code e
+line_answer_code = answer_code line_error_code
 
 -- how many bytes were written
 abbrev pub size_of : Result ℕ LineError → ℕ

@@ -4,11 +4,13 @@
 #![tactic(auto)]
 
 ghost use Rattle.std.specs.Prelude.{◌≡◌, [], ◌≤◌, length};
+ghost use Rattle.std.proofs.Common.{rules};
 ghost use Rattle.words.specs.Lists.{over};
 ghost use Rattle.lines.specs.Lines.{fields_text, line_of};
-ghost use Rattle.lines.specs.Answer.{Writes};
+ghost use Rattle.lines.specs.Answer.{line_error_code, Writes};
 
 use text::field::{Field, Word, field_width, put_field, put_word, word_width};
+use words::answers::Refusal;
 
 // Why a line is not written; `Ok` has how many bytes are. `line_answer_code` gives document 01's number.
 #[derive(Clone, Copy)]
@@ -19,6 +21,20 @@ pub enum LineError {
     UnknownActivity,
     // 61: the lent part is shorter than the line.
     NoRoom,
+}
+
+impl Refusal for LineError {
+    ghost number_of = { line_error_code };
+
+    ghost not_zero = { Prim.search rules };
+
+    fn number(self) -> u32 {
+        match self {
+            LineError::UnknownPlace => 51,
+            LineError::UnknownActivity => 52,
+            LineError::NoRoom => 61,
+        }
+    }
 }
 
 // How many bytes the fields take, with the line feed that ends the line.

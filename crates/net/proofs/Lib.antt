@@ -2,9 +2,7 @@ pub mod Bodies
 pub mod BodyWords
 pub mod HeldLaws
 pub mod IndexLaws
-pub mod Chains
 pub mod Marks
-pub mod Numbers
 pub mod Promise
 pub mod Room
 pub mod RowsHold

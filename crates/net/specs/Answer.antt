@@ -1,5 +1,6 @@
 -- The paper's number for each refusal of loading, and for each answer.
-use Rattle.std.specs.Prelude.{ℕ, Result, Ok, Err}
+use Rattle.std.specs.Prelude.{ℕ, Result}
+use Rattle.words.specs.Refusals.{answer_code}
 use Rattle.net.specs.declared.LoadError.{LoadError}
 use Rattle.net.specs.declared.LoadError.TheVariants.{Length, Layout, Size, PlaceKind, Ends, Arcs, ArcPlaces, TwoOfKind, Unreached}
 
@@ -16,5 +17,4 @@ load_error_code Unreached = 9
 
 -- 0 where the table is taken
 abbrev pub load_answer_code : Result Unit LoadError → ℕ
-load_answer_code (Ok u) = 0
-load_answer_code (Err e) = load_error_code e
+load_answer_code = answer_code load_error_code

@@ -6,8 +6,10 @@
 
 pub mod tested;
 
-ghost use Rattle.std.specs.Prelude.{◌≡◌};
-ghost use Rattle.net.specs.Answer.{load_error_code, load_answer_code};
+ghost use Rattle.net.specs.Answer.{load_error_code};
+ghost use Rattle.std.proofs.Common.{rules};
+
+use words::answers::Refusal;
 
 // Bytes of the longest route table.
 pub const MAX_TABLE: usize = 4704;
@@ -56,11 +58,12 @@ pub enum LoadError {
     Unreached,
 }
 
-impl LoadError {
-    // The number of a refusal.
-    pub fn number(self) -> u32
-        ensures { result ≡ load_error_code self }
-    {
+impl Refusal for LoadError {
+    ghost number_of = { load_error_code };
+
+    ghost not_zero = { Prim.search rules };
+
+    fn number(self) -> u32 {
         match self {
             LoadError::Length => 1,
             LoadError::Layout => 2,
@@ -72,15 +75,5 @@ impl LoadError {
             LoadError::TwoOfKind => 8,
             LoadError::Unreached => 9,
         }
-    }
-}
-
-// The number of an answer: that of the refusal, or 0 where the table is taken.
-pub fn code(r: Result<(), LoadError>) -> u32
-    ensures { result ≡ load_answer_code r }
-{
-    match r {
-        Ok(()) => 0,
-        Err(refused) => refused.number(),
     }
 }

@@ -23,7 +23,7 @@ impl<'a> SizedWords<'a> {
         wide(self.words[0])
     }
 
-    // The kind of each place.
+    // The kind of each place. Kept beside `counts`, though they are alike: each is one line that names its part of the words.
     pub fn places(self) -> &'a [u32]
         ensures { result.now ≡ places_in self.entry.words.now }
     {

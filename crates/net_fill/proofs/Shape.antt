@@ -5,7 +5,6 @@ use mathlib.Core.List.{List}
 use native.Mathlib.Omega.{arith}
 use Rattle.words.specs.Refusals.{first}
 use Rattle.words.proofs.Refusals.{none-apply}
-use Rattle.words.proofs.Sets.{sets-all}
 use Rattle.words.proofs.Words.{length-words}
 use Rattle.net.specs.Table.{shape_tests}
 use Rattle.net.proofs.Bodies.{Shaped, shaped}
@@ -16,5 +15,3 @@ shaped-by b z = shaped b (none-apply (shape_tests b) (omega arith) z)
 pub ruleset shape = (shaped-by)
 
 pub ruleset lengths = (length-words)
-
-pub ruleset whole = (sets-all)

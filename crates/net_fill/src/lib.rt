@@ -1,4 +1,4 @@
-// A table's sizes and bodies, copied from bytes into words, and words into words.
+// A table's sizes and bodies, copied from bytes into words.
 // Above `net`; `net_loader` fills with them.
 
 #![tactic(auto)]
@@ -14,7 +14,7 @@ ghost use Rattle.net.specs.Limits.{net_words};
 use net::{COUNTS, NetWords, PLACES, SOURCES};
 use words::wide;
 
-// The n numbers of the bytes from number `from` on become the words from word `base` on.
+// The n numbers of the bytes from number `from` on become the words from word `base` on: four bytes each, so no slice is copied.
 #[tactic(auto, using(crate::proofs::Shape::lengths))]
 fn copy_words(s: &[u8], from: usize, n: usize, w: &mut NetWords, base: usize)
     requires inside { from + n ≤ length (words_of s.now) }
@@ -53,12 +53,4 @@ pub fn copy_front(s: &[u8], w: &mut NetWords)
     copy_body(s, 0, w, SOURCES);
     copy_body(s, 1, w, PLACES);
     copy_body(s, 2, w, COUNTS);
-}
-
-// All words of t become those of w.
-#[tactic(auto, using(crate::proofs::Shape::whole))]
-pub fn copy_all(w: &NetWords, t: &mut NetWords)
-    ensures { t.new ≡ sets t.old 0 w.now }
-{
-    t.copy_from_slice(w);
 }

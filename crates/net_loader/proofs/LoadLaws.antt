@@ -12,7 +12,7 @@ use Rattle.words.specs.Lists.{pair_up, parts}
 use Rattle.words.specs.Refusals.{first}
 use Rattle.words.specs.Words.{word, body_of}
 use Rattle.words.proofs.Lists.{is_eq}
-use Rattle.words.proofs.Refusals.{None, none-apply, first_then, first-stays, first-le}
+use Rattle.words.proofs.Refusals.{None, none-apply, first_then, first-stays, first-le, passed_on}
 use Rattle.words.proofs.Parts.{length_pairs}
 use Rattle.net.specs.declared.LoadError.{LoadError}
 use Rattle.net.specs.Answer.{load_error_code, load_answer_code}
@@ -21,7 +21,7 @@ use Rattle.net.specs.Held.{ends_in, places_in, counts_in, arcs_in, net_in, front
 use Rattle.net.specs.Ruled.{front_tests, Fronted, Ruled}
 use Rattle.net.proofs.Bodies.{Shaped}
 use Rattle.net.proofs.BodyWords.{FitFront, FitArcs, Front, Holds, front-words, with-arcs, ends-in, places-in, counts-in, arcs-in, sized}
-use Rattle.net.proofs.Numbers.{not_taken, passed_on}
+use Rattle.net.specs.contracts.LoadErrorRefusal.TheImpl.Laws.{not_zero-law}
 use Rattle.net.proofs.Room.{fit-front, fit-arcs}
 use Rattle.net.specs.Limits.{net_words}
 use Rattle.net_fill.proofs.Shape.{shaped-by}
@@ -34,12 +34,12 @@ code-le b = first-le 9 (load_tests b) (omega arith)
 -- a refusal that is passed on, and gives the table's number, says nothing of the words
 pub refuses : (b w : List ℕ) (r : Result Unit LoadError) (e : LoadError) → IsErrAnd r (λ y. y ≡ e) → load_error_code e ≡ load_code b
     → (load_answer_code r ≡ load_code b) × (load_code b ≡ 0 → w ≡ loaded_words b)
-refuses b w r e p h = (passed_on r e p ∙ h, λ z. absurd (not_taken e (h ∙ z)))
+refuses b w r e p h = (passed_on load_error_code r e p ∙ h, λ z. absurd (not_zero-law e (h ∙ z)))
 
 -- the lent words after a table was refused, and after one was taken
 pub refused_words : (b t : List ℕ) (e : LoadError) → load_error_code e ≡ load_code b → t ≡ after_load b t
 unfolding after_load
-refused_words b t e h = rw (ne_eqb (load_code b) 0 (λ z. not_taken e (h ∙ z)))
+refused_words b t e h = rw (ne_eqb (load_code b) 0 (λ z. not_zero-law e (h ∙ z)))
 
 pub taken_words : (b w t : List ℕ) → 0 ≡ load_code b → (load_code b ≡ 0 → w ≡ loaded_words b) → w ≡ after_load b t
 unfolding after_load
@@ -51,7 +51,7 @@ body_tests b = end_tests (body_of b 0) (body_of b 1) (body_of b 2) (body_of b 3)
 
 pub shape_refused : (b : List ℕ) (e : LoadError) → load_error_code e ≡ first (shape_tests b) → load_error_code e ≡ load_code b
 unfolding load_code
-shape_refused b e h = h ∙ sym (first-stays (shape_tests b) (body_tests b) (λ z. not_taken e (h ∙ z)))
+shape_refused b e h = h ∙ sym (first-stays (shape_tests b) (body_tests b) (λ z. not_zero-law e (h ∙ z)))
 
 -- the words w got the front of a table to which none of 1 to 3 applies
 module _ (b t w : List ℕ) (fresh : t ≡ replicate net_words 0) (no_shape : 0 ≡ first (shape_tests b)) (w-is : w ≡ front_over b t) where
@@ -95,7 +95,7 @@ module _ (b t w : List ℕ) (fresh : t ≡ replicate net_words 0) (no_shape : 0 
   unfolding load_code
   front_refused e h =
       let q : load_error_code e ≡ first (end_tests A B C D) = h ∙ same-front w H1 in
-      q ∙ sym (first_then (shape_tests b) (body_tests b) (sym no_shape) (omega arith) ∙ first-stays (end_tests A B C D) (arc_tests A B C D) (λ z. not_taken e (q ∙ z)))
+      q ∙ sym (first_then (shape_tests b) (body_tests b) (sym no_shape) (omega arith) ∙ first-stays (end_tests A B C D) (arc_tests A B C D) (λ z. not_zero-law e (q ∙ z)))
 
   -- none of 4 to 6 applies
   module _ (no_front : 0 ≡ first (front_tests w)) where

@@ -16,7 +16,8 @@ use net_index::index_arcs;
 use net_refusals::{refuse_arcs, refuse_front};
 use net_shape::refuse_shape;
 
-// Loads a table file into words that are all zero. Where it is refused, nothing is said of them.
+// Loads a table file into words that are all zero. Where it is refused, nothing is said of them. That they are zero is a clause here and
+// above: a struct over a `&mut` would need a clause in its place, that it lends the same words.
 pub fn load_fresh(s: &[u8], t: &mut NetWords) -> Result<(), LoadError>
     requires { t.old ≡ replicate net_words 0 }
     ensures { (load_answer_code result ≡ load_code s.now) × (load_code s.now ≡ 0 → t.new ≡ loaded_words s.now) }

@@ -11,7 +11,10 @@ ghost use Rattle.net.specs.Held.{net_in, Held, pack};
 use net::{COUNTS, INDEX, NetWords, PLACES, SINKS, SOURCES};
 use words::wide;
 
-// The words of a net that was loaded.
+pub mod tabled;
+
+// The words of a net that was loaded. Its look-ups beside those of `SizedWords`: these ask all that loading promises, those what the
+// tests before have shown.
 #[derive(Clone, Copy)]
 pub struct LoadedNet<'a> {
     pub words: &'a NetWords,

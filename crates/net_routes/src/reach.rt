@@ -9,7 +9,7 @@ ghost use Rattle.net.specs.Ruled.{source_marks};
 
 use net::tested::RuledWords;
 
-// One arc from p to q. True where it marked something new.
+// One arc from p to q. True where it marked something new. A mark is a number, 1, as in the definition `marked`.
 fn mark_arc(m: &mut [u32; 64], p: usize, q: usize) -> bool
     requires p_bound { p < 64 }
     requires q_bound { q < 64 }

@@ -56,7 +56,7 @@ impl Numbers {
                 b'0'..=b'9' => (
                     number
                         .saturating_mul(10)
-                        .saturating_add((*c - b'0') as usize),
+                        .saturating_add(usize::from(*c - b'0')),
                     back,
                 ),
                 b'*' => (0, number),

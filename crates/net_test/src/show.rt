@@ -6,6 +6,8 @@ ghost use Rattle.net.specs.Held.{net_in};
 use net::{NET_WORDS, NetWords};
 use net_lookup::LoadedNet;
 use std::io::Write;
+use words::answers::Refusal;
+use words::wide;
 
 // What the words hold before a table is loaded.
 const MARK: u32 = 3000000007;
@@ -88,7 +90,7 @@ pub fn load<W: Write>(out: &mut W, s: &[u8]) {
             put_net(out, &net);
         }
         Err(refused) => {
-            say(out, refused.number() as usize);
+            say(out, wide(refused.number()));
             say(out, unchanged(&t));
         }
     }

@@ -30,7 +30,7 @@ impl From<u32> for Field {
     ghost from_gives = { λ n f. f ≡ Number n };
 
     fn from(n: u32) -> Field {
-        Field::Number(n as u64)
+        Field::Number(u64::from(n))
     }
 }
 

@@ -9,3 +9,4 @@ pub mod Sets
 pub mod Over
 pub mod Words
 pub mod Behind
+pub mod Chains

@@ -1,12 +1,13 @@
 -- The first refusal is 0 exactly where no test holds. Assumes nothing.
 use Prim.Native.Nat.{ℕ, ◌≤◌, ◌<◌}
 use mathlib.Core.Bool.{Bool, true, false}
-use mathlib.Core.Path.{◌≡◌, refl}
+use mathlib.Core.Path.{◌≡◌, refl, ap}
 use mathlib.Core.List.{List, [], ◌∷◌, ◌++◌}
 use native.Mathlib.Omega.{arith}
 use lib.Dec.{eqb}
+use Rattle.std.specs.Prelude.{Result, Ok, Err, IsErrAnd}
 use Rattle.words.specs.Lists.{pick, any, both, All}
-use Rattle.words.specs.Refusals.{first}
+use Rattle.words.specs.Refusals.{first, answer_code}
 use Rattle.words.proofs.Lists.{both_false}
 
 -- no test of the list holds
@@ -65,3 +66,8 @@ refused b n r e = rw e
 -- the first test does not hold, and the others decide
 pub passed : (b : Bool) (n r x : ℕ) → b ≡ false → x ≡ r → x ≡ pick b n r
 passed b n r x e h = rw e h
+
+-- a refusal that is passed on keeps its number
+pub passed_on : {A E : Type 0} (number_of : E → ℕ) (r : Result A E) (e : E) → IsErrAnd r (λ y. y ≡ e) → answer_code number_of r ≡ number_of e
+passed_on number_of (Ok x) e h = absurd h
+passed_on number_of (Err y) e h = ap number_of h

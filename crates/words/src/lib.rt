@@ -1,13 +1,16 @@
 // Four-byte numbers in byte slices, least significant byte first, and the layout of files that begin with contents pairs.
-// The lowest layer: all crates but `digits` and `program_input` use it, and it uses nothing.
+// The lowest layer: crates of every other layer use it, and it uses nothing.
 
 #![tactic(auto)]
+
+pub mod answers;
 
 ghost use Rattle.std.specs.Prelude.{◌≡◌, ◌+◌, ◌*◌, ◌<◌, ◌≤◌, length, get_or};
 ghost use Rattle.words.specs.Words.{word, words_of, bodies_of, ends_at};
 ghost use Rattle.words.specs.Put.{Put};
 
-// The same number as an index; no `From` goes from u32 to usize.
+// The same number as an index; no `From` goes from u32 to usize, nor from usize to u64. The other way `as u32` and `as u8` are written
+// where a number is known to fit: `try_from` would hand out an error that cannot come.
 pub fn wide(x: u32) -> usize
     ensures { result ≡ x }
 {
@@ -67,10 +70,10 @@ pub fn read_bodies(s: &[u8], n: usize) -> Option<u64>
     let mut end = (8 * n) as u64;
     for i in 0..n {
         let at = 8 * i;
-        if (word_at(s, at) as u64) != end {
+        if u64::from(word_at(s, at)) != end {
             return None;
         }
-        end += word_at(s, at + 4) as u64;
+        end += u64::from(word_at(s, at + 4));
     }
     Some(end)
 }

@@ -12,7 +12,7 @@ use Rattle.words.specs.Lists.{pair_up}
 use Rattle.net.specs.Net.{Arc}
 use Rattle.net.specs.Table.{bad_arc}
 use Rattle.net.specs.Held.{net_in, arcs_in}
-use Rattle.net.proofs.Chains.{any_at-is}
+use Rattle.words.proofs.Chains.{any_at-is}
 use Rattle.net.proofs.Views.{arcs-length}
 use Rattle.net_arcs.proofs.bad_arcs.Goals as goal
 

@@ -7,7 +7,7 @@ use Rattle.std.proofs.Common.{rules}
 use Rattle.std.proofs.lemmas.Iterator.{YieldsList-from_slice}
 use Rattle.std.proofs.lemmas.Iterator.Search.{any_from_yields_List}
 use Rattle.net.specs.Table.{bad_count}
-use Rattle.net.proofs.Chains.{any-is}
+use Rattle.words.proofs.Chains.{any-is}
 use Rattle.net_arcs.proofs.bad_counts.Goals as goal
 
 pub returns : goal.returns

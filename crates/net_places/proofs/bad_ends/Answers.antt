@@ -9,7 +9,7 @@ use Rattle.std.proofs.lemmas.Iterator.{YieldsList-from_range}
 use Rattle.std.proofs.lemmas.Iterator.Search.{any_from_yields_List}
 use Rattle.net.specs.Table.{bad_ends}
 use Rattle.net.specs.Held.{net_in}
-use Rattle.net.proofs.Chains.{any_to-is}
+use Rattle.words.proofs.Chains.{any_to-is}
 use Rattle.net_places.proofs.bad_ends.Goals as goal
 
 pub returns : goal.returns

@@ -8,7 +8,7 @@ use Rattle.std.proofs.Common.{rules}
 use Rattle.std.proofs.lemmas.Iterator.{YieldsList-from_slice}
 use Rattle.std.proofs.lemmas.Iterator.Search.{any_from_yields_List}
 use Rattle.net.specs.Held.{net_in}
-use Rattle.net.proofs.Chains.{any-is}
+use Rattle.words.proofs.Chains.{any-is}
 use Rattle.net_places.proofs.bad_place.Goals as goal
 
 pub returns : goal.returns

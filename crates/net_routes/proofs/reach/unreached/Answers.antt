@@ -15,7 +15,7 @@ use Rattle.words.specs.Lists.{pair_up}
 use Rattle.net.specs.Table.{passes, marked}
 use Rattle.net.specs.Held.{net_in, arcs_in}
 use Rattle.net.specs.Ruled.{source_marks}
-use Rattle.net.proofs.Chains.{any_to-is, any_to-same}
+use Rattle.words.proofs.Chains.{any_to-is, any_to-same}
 use Rattle.net_routes.proofs.RuledWords.{sink-small, sink-marked}
 use Rattle.net_routes.proofs.reach.unreached.Goals as goal
 
