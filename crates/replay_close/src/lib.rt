@@ -5,6 +5,7 @@
 #![tactic(auto)]
 
 ghost use Rattle.std.specs.Prelude.{◌≡◌};
+ghost use Rattle.std.proofs.Common.{rules};
 ghost use Rattle.words.specs.Words.{words_of};
 ghost use Rattle.net.specs.Held.{net_in};
 ghost use Rattle.replay.specs.Plain.{endings};
@@ -13,17 +14,30 @@ ghost use Rattle.replay.specs.Record.{table_in, record_words};
 ghost use Rattle.replay.specs.Calls.{state_at, ask_code, ask_bytes};
 ghost use Rattle.replay_layout.specs.Offsets.{layout_of};
 ghost use Rattle.replay.specs.Ready.{Ready};
-ghost use Rattle.replay_close.specs.Answers.{close_answer_code, ask_close};
+ghost use Rattle.replay_close.specs.Answers.{close_answer_code, close_error_code, ask_close};
 
 use net_lookup::LoadedNet;
 use replay_layout::{Layout, read_layout};
 use replay_moves::{TrailMut, add, move_object};
+use words::answers::Refusal;
 
 // Why a close is refused. `close_error_code` gives document 01's number.
 #[derive(Clone, Copy)]
 pub enum CloseError {
     // 31
     AlreadyClosed,
+}
+
+impl Refusal for CloseError {
+    ghost number_of = { close_error_code };
+
+    ghost not_zero = { Prim.search rules };
+
+    fn number(self) -> u32 {
+        match self {
+            CloseError::AlreadyClosed => 31,
+        }
+    }
 }
 
 // Every object that the close takes (`closers`: all of them) jumps to its sink where it is not there, and is taken from it; the
@@ -42,7 +56,7 @@ fn sink_objects(rec: &mut [u8], net: &LoadedNet, lay: Layout)
     add(rec, lay.closing_at(), jumps);
 }
 
-// An open trail is closed in its record's bytes.
+// An open trail is closed in its record's bytes. No `TrailMut`: the trail is whole again only once the last of them is written.
 fn take_close(rec: &mut [u8], net: &LoadedNet, lay: Layout)
     requires ready { Ready net.now.words.now rec.old }
     requires laid_out { lay ≡ layout_of (net_in net.now.words.now) rec.old }

@@ -1,5 +1,6 @@
 // Reading every count of document 01 from a trail's bytes: what is stored is looked up, and the rest is summed from it.
-// Above `replay_stored`, which looks up, `net_lookup` and `replay`. `report` and `client_counts` write what it reads.
+// Above `replay_stored`, which looks up, `net_lookup` and `replay`. `report` writes what it reads, and makes the
+// rows of it that `client_counts` writes.
 
 #![tactic(auto)]
 
@@ -50,7 +51,8 @@ fn moved(trail: &Trail, a: usize) -> u32
     trail.fired(a) * (n as u32)
 }
 
-// IN of place q: the jumps from every place to it.
+// IN of place q: the jumps from every place to it. Kept beside `jumps_out`: each is one sum that shows its pair, and a function over
+// the pair would need a closure with a contract of its own.
 fn jumps_in(trail: &Trail, q: usize) -> u32
     requires known_place { q < (net_in trail.now.net.words.now).places }
     ensures { result ≡ stored_jumps_in (net_in trail.now.net.words.now) (state_at trail.now.rec.now) q }
@@ -151,7 +153,8 @@ pub fn read_place(trail: &Trail, q: u32) -> Option<PlaceCounts>
     })
 }
 
-// Reads the counts of activity a. `None` is an unknown activity, number 52 by `act_read_code`.
+// Reads the counts of activity a. `None` is an unknown activity, number 52 by `act_read_code`. Kept beside `read_place`: each reads
+// counts of its own.
 #[tactic(auto, unfolding(crate::specs::Reads::act_read, crate::specs::Reads::act_code))]
 pub fn read_act(trail: &Trail, a: u32) -> Option<ActCounts>
     ensures answer { result ≡ act_read trail.now.rec.now a }

@@ -2,7 +2,6 @@
 use Prim.Native.Nat.{ℕ, ◌≤◌}
 use mathlib.Core.Path.{◌≡◌, ap, sym, ◌∙◌}
 use mathlib.Core.List.{List}
-use native.Mathlib.Omega.{arith}
 use lib.ListN.{length}
 use Rattle.std.specs.Prelude.{Result, Err}
 use Rattle.replay.specs.Plain.{Ask}
@@ -11,25 +10,16 @@ use Rattle.replay.specs.Limits.{record_head}
 use Rattle.replay.specs.Ready.{Ready}
 use Rattle.replay.proofs.Calls.{bytes-refused, ready-asked}
 use Rattle.replay_layout.proofs.RecordLaws.{ready-contents}
-use Rattle.replay_event.specs.Answers.{event_answer_code, event_error_code}
+use Rattle.replay_event.specs.Answers.{event_answer_code}
+use Rattle.replay_event.specs.contracts.EventErrorRefusal.TheImpl.Laws.{not_zero-law}
 use Rattle.replay_event.specs.declared.EventError.{EventError}
-use Rattle.replay_event.specs.declared.EventError.TheVariants.{Closed, Full, Activity, Number, Object, Kind, TwoOfKind}
-
-not_taken : (x : EventError) → event_error_code x ≡ 0 → ⊥
-not_taken Closed e = omega arith
-not_taken Full e = omega arith
-not_taken Activity e = omega arith
-not_taken Number e = omega arith
-not_taken Object e = omega arith
-not_taken Kind e = omega arith
-not_taken TwoOfKind e = omega arith
 
 module _ (w b : List ℕ) (R : Ready w b) where
   pub has_head : record_head ≤ length b
   has_head = ready-contents w b R
 
   pub bytes_kept : (q : Ask) (r : Result Unit EventError) (x : EventError) → r ≡ Err x → event_answer_code r ≡ ask_code b q → b ≡ ask_bytes b q
-  bytes_kept q r x is e = bytes-refused w b R q (λ z. not_taken x (sym (ap event_answer_code is) ∙ e ∙ z))
+  bytes_kept q r x is e = bytes-refused w b R q (λ z. not_zero-law x (sym (ap event_answer_code is) ∙ e ∙ z))
 
   pub still_ready : (q : Ask) (c : List ℕ) → c ≡ ask_bytes b q → Ready w c
   still_ready q c e = rw e (ready-asked w b R q)

@@ -6,6 +6,7 @@
 #![tactic(auto)]
 
 ghost use Rattle.std.specs.Prelude.{◌≡◌};
+ghost use Rattle.std.proofs.Common.{rules};
 ghost use Rattle.words.specs.Refusals.{first};
 ghost use Rattle.words.specs.Words.{words_of};
 ghost use Rattle.net.specs.Held.{net_in};
@@ -13,13 +14,15 @@ ghost use Rattle.replay.specs.Plain.{legs, object_tests, event_of, ask_event};
 ghost use Rattle.replay.specs.State.{act_jumps, after_legs, after_event, answer_s};
 ghost use Rattle.replay.specs.Record.{table_in, record_words};
 ghost use Rattle.replay.specs.Calls.{state_at, ask_code, ask_bytes};
-ghost use Rattle.replay_objects.specs.ObjectAnswers.{object_answer_code, object_error_code};
+ghost use Rattle.replay_objects.specs.ObjectAnswers.{object_answer_code};
 ghost use Rattle.replay_event.specs.Answers.{event_answer_code, event_error_code};
+ghost use Rattle.replay_event.specs.declared.EventError.TheVariants.{Objects};
 
 use net_lookup::LoadedNet;
 use replay_layout::{Layout, read_layout};
 use replay_moves::{TrailMut, add, move_object};
-use replay_objects::objects::{ObjectError, refuse_objects};
+use replay_objects::objects::{ObjectError, Register, refuse_objects};
+use words::answers::Refusal;
 
 // Why an event is refused. `event_error_code` gives document 01's number.
 #[derive(Clone, Copy)]
@@ -32,23 +35,31 @@ pub enum EventError {
     Activity,
     // 24: the number of objects differs from the activity's arcs.
     Number,
-    // 25: unknown object.
-    Object,
-    // 26: an object of a kind the activity does not take.
-    Kind,
-    // 27: two of the objects are of one kind.
-    TwoOfKind,
+    // 25 to 27, of its objects.
+    Objects(ObjectError),
+}
+
+impl Refusal for EventError {
+    ghost number_of = { event_error_code };
+
+    ghost not_zero = { Prim.search rules };
+
+    fn number(self) -> u32 {
+        match self {
+            EventError::Closed => 21,
+            EventError::Full => 22,
+            EventError::Activity => 23,
+            EventError::Number => 24,
+            EventError::Objects(e) => e.number(),
+        }
+    }
 }
 
 impl From<ObjectError> for EventError {
-    ghost from_gives = { λ x y. event_error_code y ≡ object_error_code x };
+    ghost from_gives = { λ objects e. e ≡ Objects objects };
 
-    fn from(e: ObjectError) -> EventError {
-        match e {
-            ObjectError::Object => EventError::Object,
-            ObjectError::Kind => EventError::Kind,
-            ObjectError::TwoOfKind => EventError::TwoOfKind,
-        }
+    fn from(objects: ObjectError) -> EventError {
+        EventError::Objects(objects)
     }
 }
 
@@ -72,7 +83,11 @@ impl Asked<'_, '_> {
     {
         let from = 4 * self.lay.register;
         let to = 4 * self.lay.positions;
-        refuse_objects(self.objs, self.act, &rec[from..to], &self.net)
+        let register = Register {
+            bytes: &rec[from..to],
+            net: self.net,
+        };
+        refuse_objects(self.objs, self.act, &register)
     }
 
     // 21 to 27: the first that applies.
@@ -138,7 +153,7 @@ pub fn apply(trail: &mut TrailMut, act: u32, objs: &[u8])
     let net = trail.net;
     let rec = &mut *trail.rec;
     let lay = read_layout(rec, &net);
-    let act = act as usize;
+    let act = words::wide(act);
     Asked {
         net,
         lay,
@@ -159,7 +174,7 @@ pub fn event(trail: &mut TrailMut, act: u32, objs: &[u8]) -> Result<(), EventErr
     let net = trail.net;
     let rec = &mut *trail.rec;
     let lay = read_layout(rec, &net);
-    let act = act as usize;
+    let act = words::wide(act);
     let asked = Asked {
         net,
         lay,

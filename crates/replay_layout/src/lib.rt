@@ -54,7 +54,7 @@ fn quarter(rec: &[u8], at: usize) -> usize
     requires { at + 4 ≤ length rec.now }
     ensures { result ≡ word rec.now at / 4 }
 {
-    (words::word_at(rec, at) / 4) as usize
+    words::wide(words::word_at(rec, at) / 4)
 }
 
 // The layout that a record's contents give, with the number of places of its net.
@@ -94,7 +94,7 @@ pub fn pairs_bytes(net: &LoadedNet) -> usize
 // Each offset of the counts is a method of its own: with its constant as a parameter, `lay.count_at(EVENTS)` would be no plainer.
 impl Layout {
     // The kind of object o. Rows are read and written as numbers behind their body's start: that is worked out once for all objects
-    // of an event.
+    // of an event. It takes the words, as `replay_rows` does, which asks nothing of them.
     pub fn get_kind(self, rec: &[u8], t: &NetWords, o: usize) -> u32
         requires { kind_at (net_in t.now) self o < length (words_of rec.now) }
         ensures { result ≡ get_or (words_of rec.now) (kind_at (net_in t.now) self o) 0 }

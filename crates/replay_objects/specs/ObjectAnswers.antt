@@ -1,5 +1,6 @@
 -- The paper's number for each answer of the tests of an event's objects.
-use Rattle.std.specs.Prelude.{ℕ, Result, Ok, Err}
+use Rattle.std.specs.Prelude.{ℕ, Result}
+use Rattle.words.specs.Refusals.{answer_code}
 use Rattle.replay_objects.specs.declared.objects.ObjectError.{ObjectError}
 use Rattle.replay_objects.specs.declared.objects.ObjectError.TheVariants.{Object, Kind, TwoOfKind}
 
@@ -9,5 +10,4 @@ object_error_code Kind = 26
 object_error_code TwoOfKind = 27
 
 abbrev pub object_answer_code : Result Unit ObjectError → ℕ
-object_answer_code (Ok x) = 0
-object_answer_code (Err e) = object_error_code e
+object_answer_code = answer_code object_error_code

@@ -1,6 +1,7 @@
 // The refusals 11 and 12 of a register's bytes, which starting, taking up and opening a trail file share.
 
 ghost use Rattle.std.specs.Prelude.{◌≡◌, ℕ, leb};
+ghost use Rattle.std.proofs.Common.{rules};
 ghost use Rattle.words.specs.Lists.{any};
 ghost use Rattle.net.specs.Held.{net_in};
 ghost use Rattle.replay.specs.Plain.{register_code};
@@ -9,6 +10,7 @@ ghost use Rattle.replay_objects.specs.RegisterAnswers.{register_answer_code, reg
 
 use net_lookup::LoadedNet;
 use replay_rows::{kind, objects};
+use words::answers::Refusal;
 use words::wide;
 
 // What is wrong with a register. `register_error_code` gives document 01's number.
@@ -20,11 +22,12 @@ pub enum RegisterError {
     Kind,
 }
 
-impl RegisterError {
-    // The number of a refusal.
-    pub fn number(self) -> u32
-        ensures { result ≡ register_error_code self }
-    {
+impl Refusal for RegisterError {
+    ghost number_of = { register_error_code };
+
+    ghost not_zero = { Prim.search rules };
+
+    fn number(self) -> u32 {
         match self {
             RegisterError::Number => 11,
             RegisterError::Kind => 12,
@@ -37,12 +40,7 @@ fn unknown_kind(register: &[u8], net: &LoadedNet) -> bool
     ensures { result ≡ any (λ (k : ℕ). leb (net_in net.now.words.now).kinds k) (kinds_in (net_in net.now.words.now) register.now) }
 {
     let known = net.kinds();
-    for i in 0..objects(register, net.words) {
-        if known <= wide(kind(register, net.words, i)) {
-            return true;
-        }
-    }
-    false
+    (0..objects(register, net.words)).any(|o| known <= wide(kind(register, net.words, o)))
 }
 
 // 11 or 12, by a register's bytes.

@@ -1,5 +1,6 @@
 // The rows of the objects: a register's, how many, whether they are whole, and the kind in each; those of the positions, their bytes,
 // and the place in each. How wide a row is stands here alone.
+// It takes the net's words, of which it asks nothing: a `LoadedNet` would ask more.
 // Above `replay`, whose definitions its contracts cite. `replay_layout` finds a record's rows by it; the tests of registers and
 // positions, starting and trace files read theirs through it.
 

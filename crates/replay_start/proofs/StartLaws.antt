@@ -8,9 +8,10 @@ use lib.ListN.{length, get_or, set, take, drop, replicate, length-append, length
 use lib.Dec.{ltb}
 use lib.Seq.{sets, length-take-le}
 use borrow.Author.Tests.{eq-eqb, ne_eqb, lt-ltb, le-ltb}
-use Rattle.words.specs.Lists.{pick, All, over}
+use Rattle.words.specs.Lists.{pick, over}
 use Rattle.words.specs.Words.{words_of, bytes_of}
 use Rattle.words.proofs.Words.{length-words, bytes-of-words}
+use Rattle.words.proofs.Lists.{All-at}
 use Rattle.words.proofs.Refusals.{first_then, first-stays}
 use Rattle.net.specs.Net.{Net, Loaded}
 use Rattle.net.specs.Table.{net_of}
@@ -23,11 +24,12 @@ use Rattle.replay.specs.State.{State, start_state}
 use Rattle.replay.specs.Sound.{Sound}
 use Rattle.replay.specs.Record.{interleave, counts, counts_size, contents, record_words}
 use Rattle.replay.specs.Register.{kinds_in, position_bytes}
+use Rattle.replay.specs.Ready.{KnownKinds}
 use Rattle.replay.specs.Calls.{start_record, start_code, start_bytes}
 use Rattle.replay_layout.specs.declared.Layout.{Layout}
 use Rattle.replay_layout.specs.Fresh.{Registered, fresh_bytes, fresh_layout}
 use Rattle.replay_objects.specs.declared.register.RegisterError.{RegisterError}
-use Rattle.replay_objects.specs.declared.register.RegisterError.TheVariants.{Number, Kind}
+use Rattle.replay_objects.specs.contracts.register.RegisterErrorRefusal.TheImpl.Laws.{not_zero-law}
 use Rattle.replay_objects.specs.RegisterAnswers.{register_error_code}
 use Rattle.replay_start.specs.Startable.{Startable, contents_of}
 use Rattle.replay.proofs.Accepted.{registered}
@@ -85,8 +87,8 @@ module _ (t table objects : List ℕ) (S : Startable t table objects) (ok : regi
   pub register-rows : Registered (net_in t) objects
   register-rows = record { whole = sym rows; few = (registered (net_of table) (kinds_in (net_of table) objects) ok).few }
 
-  pub kinds-known : All (λ (k : ℕ). k < (net_in t).kinds) (kinds_in (net_of table) objects)
-  kinds-known = subst (λ (N : Net). All (λ (k : ℕ). k < N.kinds) (kinds_in (net_of table) objects)) (sym S.tabled.net) (registered (net_of table) (kinds_in (net_of table) objects) ok).kinds
+  pub kinds-known : KnownKinds (net_in t) (kinds_in (net_in t) objects)
+  kinds-known = subst (λ (N : Net). KnownKinds N (kinds_in N objects)) (sym S.tabled.net) (record { kind = All-at (λ (k : ℕ). k < (net_of table).kinds) 0 (kinds_in (net_of table) objects) (registered (net_of table) (kinds_in (net_of table) objects) ok).kinds })
 
   record-size-of : length (start_record table (kinds_in (net_of table) objects)) ≡ fresh_bytes (net_of table) (length table) objects
   unfolding start_record
@@ -171,13 +173,13 @@ module _ (table objects lent : List ℕ) where
   abbrev pub Answers : ℕ → List ℕ → Type 0
   Answers n after = (n ≡ start_code table (kinds_in (net_of table) objects) (length lent)) × (after ≡ start_bytes table (kinds_in (net_of table) objects) lent)
 
-  refused : (n : ℕ) → 0 < n → n ≡ start_code table (kinds_in (net_of table) objects) (length lent) → Answers n lent
+  refused : (n : ℕ) → (n ≡ 0 → ⊥) → n ≡ start_code table (kinds_in (net_of table) objects) (length lent) → Answers n lent
   unfolding start_bytes
-  refused n h e = (e, rw (ne_eqb (start_code table (kinds_in (net_of table) objects) (length lent)) 0 (λ z. omega (arith, e))))
+  refused n h e = (e, rw (ne_eqb (start_code table (kinds_in (net_of table) objects) (length lent)) 0 (λ z. h (e ∙ z))))
 
-  pub register-refused : (n : ℕ) → 0 < n → n ≡ register_code (net_of table) (kinds_in (net_of table) objects) → Answers n lent
+  pub register-refused : (n : ℕ) → (n ≡ 0 → ⊥) → n ≡ register_code (net_of table) (kinds_in (net_of table) objects) → Answers n lent
   unfolding start_code
-  register-refused n h e = refused n h (e ∙ sym (first-stays (register_tests (net_of table) (kinds_in (net_of table) objects)) ((ltb (length lent) (length (start_record table (kinds_in (net_of table) objects))), 61) ∷ []) (λ z. omega (arith, e ∙ z))))
+  register-refused n h e = refused n h (e ∙ sym (first-stays (register_tests (net_of table) (kinds_in (net_of table) objects)) ((ltb (length lent) (length (start_record table (kinds_in (net_of table) objects))), 61) ∷ []) (λ z. h (e ∙ z))))
 
   module _ (ok : register_code (net_of table) (kinds_in (net_of table) objects) ≡ 0) where
     last-test : start_code table (kinds_in (net_of table) objects) (length lent) ≡ pick (ltb (length lent) (length (start_record table (kinds_in (net_of table) objects)))) 61 0
@@ -185,7 +187,7 @@ module _ (table objects lent : List ℕ) where
     last-test = first_then (register_tests (net_of table) (kinds_in (net_of table) objects)) ((ltb (length lent) (length (start_record table (kinds_in (net_of table) objects))), 61) ∷ []) ok (omega arith)
 
     pub no_room : length lent < length (start_record table (kinds_in (net_of table) objects)) → Answers 61 lent
-    no_room h = refused 61 (omega arith) (sym (last-test ∙ rw (lt-ltb (length lent) (length (start_record table (kinds_in (net_of table) objects))) h)))
+    no_room h = refused 61 (λ z. omega arith) (sym (last-test ∙ rw (lt-ltb (length lent) (length (start_record table (kinds_in (net_of table) objects))) h)))
 
     pub taken : length (start_record table (kinds_in (net_of table) objects)) ≤ length lent → Answers 0 (over (start_record table (kinds_in (net_of table) objects)) lent)
     unfolding start_bytes
@@ -199,11 +201,7 @@ module _ (w table objects lent : List ℕ) (S : Startable w table objects) where
   of_table = ap (λ (N : Net). register_code N (kinds_in N objects)) S.tabled.net
 
   pub start-refused : (e : RegisterError) → register_error_code e ≡ register_code (net_in w) (kinds_in (net_in w) objects) → Answers table objects lent (register_error_code e) lent
-  start-refused = λ e h. register-refused table objects lent (register_error_code e) (some e) (h ∙ of_table)
-    where
-      some : (e : RegisterError) → 0 < register_error_code e
-      some Number = omega arith
-      some Kind = omega arith
+  start-refused e h = register-refused table objects lent (register_error_code e) (not_zero-law e) (h ∙ of_table)
 
   module _ (ok : 0 ≡ register_code (net_in w) (kinds_in (net_in w) objects)) where
     pub registered-start : register_code (net_of table) (kinds_in (net_of table) objects) ≡ 0

@@ -40,6 +40,9 @@ impl Trail<'_> {
         words::get_word(self.rec, lay.closed_at()) != 0
     }
 
+    // The numbers that a record stores, each read where `Layout` says. Kept apart, though they are alike: each is one line, and its
+    // contract names its own number and bound.
+
     // The accepted events.
     pub fn events(&self) -> u32
         ensures { result ≡ (state_at self.now.rec.now).events }

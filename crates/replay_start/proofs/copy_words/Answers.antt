@@ -22,8 +22,8 @@ overflow_add-base c = omega (arith, length-words c.args.out.now, length-words c.
 pub slice_bounds-copy_from_slice-end : goal.slice_bounds-copy_from_slice-end
 slice_bounds-copy_from_slice-end c = omega (arith, length-words c.args.out.now, length-words c.args.s.now)
 
-pub returns : goal.returns
-returns c =
+pub returns-clause-after : goal.returns-clause-after
+returns-clause-after c =
     let a = c.args in
     words-copied a.out.now c.copy_from_slice.new.self a.base (length a.s.now / 4) _ (ap length c.copy_from_slice.ensures.after ∙ length-take-le (4 * (length a.s.now / 4)) a.s.now (omega arith)) (omega arith) (omega (arith, c.requires, length-words a.s.now))
     ∙ ap (λ (l : List ℕ). sets (words_of a.out.now) a.base l) (ap words_of c.copy_from_slice.ensures.after ∙ words_in a.s.now)

@@ -10,4 +10,4 @@ use Rattle.replay_layout.specs.Offsets.{place_at}
 use Rattle.replay_start.proofs.put_sources.Given as goal
 
 abbrev pub invariant-loop-o : goal.invariant-loop-o
-invariant-loop-o l = (length l.out ≡ length l.initial.out) × (sets (words_of l.out) (place_at l.lay l.o) (drop l.o (map (net_in l.net.words.now).source (kinds_in (net_in l.net.words.now) l.objects))) ≡ sets (words_of l.initial.out) l.lay.positions (map (net_in l.net.words.now).source (kinds_in (net_in l.net.words.now) l.objects)))
+invariant-loop-o l = (length l.out ≡ length l.initial.out) × (sets (words_of l.out) (place_at l.lay l.o) (drop l.o (map (net_in l.register.net.words.now).source (kinds_in (net_in l.register.net.words.now) l.register.bytes.now))) ≡ sets (words_of l.initial.out) l.lay.positions (map (net_in l.register.net.words.now).source (kinds_in (net_in l.register.net.words.now) l.register.bytes.now)))

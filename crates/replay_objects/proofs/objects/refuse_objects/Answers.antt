@@ -28,11 +28,11 @@ two_of_kind-requires c =
 pub returns-then-two_of_kind : goal.returns-then-two_of_kind
 returns-then-two_of_kind c =
     let a = c.args in let t = c.in_ok-take_kinds.ensures in record {
-      code = same-left (net_in a.net.now.words.now) (kinds_in (net_in a.net.now.words.now) a.register.now) (words_of a.objs.now) (replicate 8 0) c.take_kinds.new.kinds a.act refl c.requires.bounded.0 t.code t.kinds _ c.two_of_kind.result true (sym (length-words a.objs.now)) c.two_of_kind.ensures c.if-two_of_kind.true;
+      code = same-left (net_in a.register.now.net.words.now) (kinds_in (net_in a.register.now.net.words.now) a.register.now.bytes.now) (words_of a.objs.now) (replicate 8 0) c.take_kinds.new.kinds a.act refl c.requires.bounded.0 t.code t.kinds _ c.two_of_kind.result true (sym (length-words a.objs.now)) c.two_of_kind.ensures c.if-two_of_kind.true;
     }
 
 pub returns : goal.returns
 returns c =
     let a = c.args in let t = c.in_ok-take_kinds.ensures in record {
-      code = same-left (net_in a.net.now.words.now) (kinds_in (net_in a.net.now.words.now) a.register.now) (words_of a.objs.now) (replicate 8 0) c.take_kinds.new.kinds a.act refl c.requires.bounded.0 t.code t.kinds _ c.two_of_kind.result false (sym (length-words a.objs.now)) c.two_of_kind.ensures c.if-two_of_kind.false;
+      code = same-left (net_in a.register.now.net.words.now) (kinds_in (net_in a.register.now.net.words.now) a.register.now.bytes.now) (words_of a.objs.now) (replicate 8 0) c.take_kinds.new.kinds a.act refl c.requires.bounded.0 t.code t.kinds _ c.two_of_kind.result false (sym (length-words a.objs.now)) c.two_of_kind.ensures c.if-two_of_kind.false;
     }

@@ -12,6 +12,6 @@ use Rattle.replay_objects.proofs.objects.take_kinds.Given as goal
 
 abbrev pub invariant-loop-i : goal.invariant-loop-i
 invariant-loop-i l =
-    (kinds_left (net_in l.net.words.now) (kinds_in (net_in l.net.words.now) l.register) l.act (drop l.i (words_of l.objs)) l.foreign ≡ kinds_left (net_in l.net.words.now) (kinds_in (net_in l.net.words.now) l.register) l.act (words_of l.objs) 0)
+    (kinds_left (net_in l.register.net.words.now) (kinds_in (net_in l.register.net.words.now) l.register.bytes.now) l.act (drop l.i (words_of l.objs)) l.foreign ≡ kinds_left (net_in l.register.net.words.now) (kinds_in (net_in l.register.net.words.now) l.register.bytes.now) l.act (words_of l.objs) 0)
     × (l.foreign ≤ l.i)
-    × (sets l.kinds l.i (object_kinds (kinds_in (net_in l.net.words.now) l.register) (drop l.i (words_of l.objs))) ≡ sets l.initial.kinds 0 (object_kinds (kinds_in (net_in l.net.words.now) l.register) (words_of l.objs)))
+    × (sets l.kinds l.i (object_kinds (kinds_in (net_in l.register.net.words.now) l.register.bytes.now) (drop l.i (words_of l.objs))) ≡ sets l.initial.kinds 0 (object_kinds (kinds_in (net_in l.register.net.words.now) l.register.bytes.now) (words_of l.objs)))
