@@ -2,4 +2,4 @@ pub mod Spans
 pub mod Judged
 pub mod Restored
 pub mod Demands
-pub mod Saves
+pub mod Numbers

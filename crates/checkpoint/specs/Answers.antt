@@ -1,34 +1,46 @@
--- The paper's number for each answer of checking, taking up and putting down a record.
-use Rattle.std.specs.Prelude.{ℕ}
-use Rattle.checkpoint.specs.declared.RestoreAnswer.{RestoreAnswer}
-use Rattle.checkpoint.specs.declared.RestoreAnswer.TheVariants.{Taken, Length, Layout, Table, Objects, Positions, Counts, Jumps, Room}
-use Rattle.checkpoint.specs.declared.Saved.{Saved}
-use Rattle.checkpoint.specs.declared.Saved.TheVariants as S
+-- The paper's number for each refusal, and for each answer, of checking, taking up and putting down a record.
+use Rattle.std.specs.Prelude.{ℕ, Result}
+use Rattle.words.specs.Refusals.{answer_code}
+use Rattle.net.specs.Answer.{load_error_code}
+use Rattle.replay_objects.specs.RegisterAnswers.{register_error_code}
+use Rattle.checkpoint.specs.declared.RestoreError.{RestoreError}
+use Rattle.checkpoint.specs.declared.RestoreError.TheVariants.{Length, Layout, Table, Rows, Register, Positions, Counts, Jumps, NoRoom}
+use Rattle.checkpoint.specs.declared.SaveError.{SaveError}
+use Rattle.checkpoint.specs.declared.SaveError.TheVariants as S
 
--- the number, 0 where the record is taken
-abbrev pub restore_answer_code : RestoreAnswer → ℕ
-restore_answer_code Taken = 0
-restore_answer_code Length = 41
-restore_answer_code Layout = 42
-restore_answer_code (Table n) = 43
-restore_answer_code (Objects n) = 44
-restore_answer_code Positions = 45
-restore_answer_code Counts = 46
-restore_answer_code Jumps = 47
-restore_answer_code Room = 61
+abbrev pub restore_error_code : RestoreError → ℕ
+restore_error_code Length = 41
+restore_error_code Layout = 42
+restore_error_code (Table e) = 43
+restore_error_code Rows = 44
+restore_error_code (Register e) = 44
+restore_error_code Positions = 45
+restore_error_code Counts = 46
+restore_error_code Jumps = 47
+restore_error_code NoRoom = 61
 
 -- the second number: 43 also gives the table's, 44 the register's
-abbrev pub restore_answer_second : RestoreAnswer → ℕ
-restore_answer_second Taken = 0
-restore_answer_second Length = 0
-restore_answer_second Layout = 0
-restore_answer_second (Table n) = n
-restore_answer_second (Objects n) = n
-restore_answer_second Positions = 0
-restore_answer_second Counts = 0
-restore_answer_second Jumps = 0
-restore_answer_second Room = 0
+abbrev pub restore_error_second : RestoreError → ℕ
+restore_error_second Length = 0
+restore_error_second Layout = 0
+restore_error_second (Table e) = load_error_code e
+restore_error_second Rows = 0
+restore_error_second (Register e) = register_error_code e
+restore_error_second Positions = 0
+restore_error_second Counts = 0
+restore_error_second Jumps = 0
+restore_error_second NoRoom = 0
 
-abbrev pub saved_code : Saved → ℕ
-saved_code S.Taken = 0
-saved_code S.Room = 61
+-- 0 where the record is taken
+abbrev pub restore_answer_code : Result Unit RestoreError → ℕ
+restore_answer_code = answer_code restore_error_code
+
+abbrev pub restore_answer_second : Result Unit RestoreError → ℕ
+restore_answer_second = answer_code restore_error_second
+
+abbrev pub save_error_code : SaveError → ℕ
+save_error_code S.NoRoom = 61
+
+-- 0 where the record is put down
+abbrev pub saved_code : Result Unit SaveError → ℕ
+saved_code = answer_code save_error_code

@@ -23,11 +23,7 @@ pub fn sum_every(cs: &[u8], from: usize, n: usize) -> u64
     requires { (n ≤ 64) × (from ≤ 4) × (from + 2 * n ≤ length (words_of cs.now) + 1) }
     ensures { (result ≡ sum_to n (λ (a : ℕ). get_or (words_of cs.now) (from + 2 * a) 0)) × (result ≤ 274877906944) }
 {
-    let mut sum = 0;
-    for a in 0..n {
-        sum += u64::from(get_word(cs, from + 2 * a));
-    }
-    sum
+    (0..n).map(|a| u64::from(get_word(cs, from + 2 * a))).sum()
 }
 
 // JUMPS above MOVED, for an activity with so many arcs.

@@ -11,9 +11,17 @@ use Rattle.words.specs.Refusals.{first}
 use Rattle.net.specs.Net.{Net}
 use Rattle.replay.specs.Plain.{register_code}
 use Rattle.replay.specs.Register.{whole_rows, kinds_in}
+use Rattle.replay_objects.specs.RegisterAnswers.{register_error_code}
+use Rattle.replay_objects.specs.contracts.register.RegisterErrorRefusal.TheImpl.Laws.{not_zero-law}
+use Rattle.replay_objects.specs.declared.register.RegisterError.{RegisterError}
 use Rattle.checkpoint.specs.Bodies.{body_state, hit}
 use Rattle.checkpoint.specs.Restore.{tests45, tests46, tests47}
 use Rattle.checkpoint_judge.specs.Judge.{closed_by, judge_code, judge_second}
+use native.Mathlib.Omega.{arith}
+
+-- a register's refusal has a number, under a name that the code can give to the check
+pub register_refused : (e : RegisterError) → register_error_code e ≡ 0 → ⊥
+register_refused = not_zero-law
 
 -- tests that all give n
 first-hit : (n : ℕ) (ts rest : List (Bool × ℕ)) → All (λ (t : Bool × ℕ). t.1 ≡ n) ts → first (ts ++ rest) ≡ pick (hit ts) n (first rest)
@@ -70,34 +78,39 @@ module _ (N : Net) (ks ps cs js : List ℕ) where
       go false false false false false = refl
 
   -- any other number than 44 has no second
-  alone : (n : ℕ) → n ≡ code → eqb n 44 ≡ false → (n ≡ code) × (0 ≡ second)
+  pub no_second : (code ≡ 44 → ⊥) → second ≡ 0
   unfolding judge_second
-  alone n e f = (e, rw (← e, f))
+  no_second n = rw (ne_eqb code 44 n) refl
 
-  pub judge-rows : whole_rows N ks ≡ false → (44 ≡ code) × (0 ≡ second)
+  pub judge_rows : whole_rows N ks ≡ false → code ≡ 44
+  judge_rows n = rw (code_is, n) refl
+
+  pub rows_second : whole_rows N ks ≡ false → second ≡ 0
   unfolding judge_second
-  judge-rows n =
-      let e : 44 ≡ code = rw (code_is, n) in
-      (e, rw (← e, n))
+  rows_second n = rw (judge_rows n, n) refl
 
   module _ (w : whole_rows N ks ≡ true) where
-    pub judge-register : (register_code N (kinds_in N ks) ≡ 0 → ⊥) → (44 ≡ code) × (register_code N (kinds_in N ks) ≡ second)
+    pub judge_register : (register_code N (kinds_in N ks) ≡ 0 → ⊥) → code ≡ 44
+    judge_register n = rw (code_is, w, ne_eqb (register_code N (kinds_in N ks)) 0 n) refl
+
+    pub register_second : (register_code N (kinds_in N ks) ≡ 0 → ⊥) → second ≡ register_code N (kinds_in N ks)
     unfolding judge_second
-    judge-register n =
-        let e : 44 ≡ code = rw (code_is, w, ne_eqb (register_code N (kinds_in N ks)) 0 n) in
-        (e, rw (← e, w))
+    register_second n = rw (judge_register n, w) refl
 
     module _ (r : register_code N (kinds_in N ks) ≡ 0) where
-      pub judge-positions : hit45 ≡ true → (45 ≡ code) × (0 ≡ second)
-      judge-positions h = alone 45 (rw (code_is, w, eq-eqb (register_code N (kinds_in N ks)) 0 r, h)) refl
+      pub judge_positions : hit45 ≡ true → code ≡ 45
+      judge_positions h = rw (code_is, w, eq-eqb (register_code N (kinds_in N ks)) 0 r, h) refl
 
-      module _ (p : hit45 ≡ false) where
-        pub judge-counts : hit46 ≡ true → (46 ≡ code) × (0 ≡ second)
-        judge-counts h = alone 46 (rw (code_is, w, eq-eqb (register_code N (kinds_in N ks)) 0 r, p, h)) refl
+      pub judge_counts : hit45 ≡ false → hit46 ≡ true → code ≡ 46
+      judge_counts p h = rw (code_is, w, eq-eqb (register_code N (kinds_in N ks)) 0 r, p, h) refl
 
-        module _ (c : hit46 ≡ false) where
-          pub judge-jumps : hit47 ≡ true → (47 ≡ code) × (0 ≡ second)
-          judge-jumps h = alone 47 (rw (code_is, w, eq-eqb (register_code N (kinds_in N ks)) 0 r, p, c, h)) refl
+      pub judge_jumps : hit45 ≡ false → hit46 ≡ false → hit47 ≡ true → code ≡ 47
+      judge_jumps p c h = rw (code_is, w, eq-eqb (register_code N (kinds_in N ks)) 0 r, p, c, h) refl
 
-          pub judge-taken : hit47 ≡ false → (0 ≡ code) × (0 ≡ second)
-          judge-taken h = alone 0 (rw (code_is, w, eq-eqb (register_code N (kinds_in N ks)) 0 r, p, c, h)) refl
+      pub judge_taken : hit45 ≡ false → hit46 ≡ false → hit47 ≡ false → code ≡ 0
+      judge_taken p c h = rw (code_is, w, eq-eqb (register_code N (kinds_in N ks)) 0 r, p, c, h) refl
+
+-- the steps of the judge: 44, and 45 to 47
+pub ruleset register = (register_refused, judge_rows, rows_second, judge_register, register_second)
+
+pub ruleset bodies = (judge_positions, judge_counts, judge_jumps, judge_taken, no_second)

@@ -11,7 +11,7 @@ ghost use Rattle.replay.specs.Register.{whole_rows, kinds_in};
 ghost use Rattle.checkpoint.specs.Answers.{restore_answer_code, restore_answer_second};
 ghost use Rattle.checkpoint_judge.specs.Judge.{closed_by, judge_code, judge_second};
 
-use checkpoint::RestoreAnswer;
+use checkpoint::RestoreError;
 use checkpoint_counts::bad_counts;
 use checkpoint_jumps::CountedBodies;
 use checkpoint_positions::bad_positions;
@@ -23,30 +23,28 @@ use replay_rows::whole;
 fn begins_closed(cs: &[u8]) -> bool
     ensures { result ≡ closed_by cs.now }
 {
-    if cs.len() < 4 {
-        return false;
-    }
-    words::word_at(cs, 0) == 1
+    4 <= cs.len() && words::word_at(cs, 0) == 1
 }
 
 // 45 to 47, of a register to which 44 does not apply.
+#[tactic(auto, using(crate::proofs::Verdicts::bodies, checkpoint_counts::proofs::Counting::counted))]
 fn judge_bodies<'a>(
     ks: &'a [u8],
     ps: &[u8],
     cs: &'a [u8],
     js: &[u8],
     net: &LoadedNet<'a>,
-) -> RestoreAnswer
+) -> Result<(), RestoreError>
     requires whole { whole_rows (net_in net.now.words.now) ks.now ≡ true }
     requires registered { register_code (net_in net.now.words.now) (kinds_in (net_in net.now.words.now) ks.now) ≡ 0 }
     ensures code { restore_answer_code result ≡ judge_code (net_in net.now.words.now) ks.now ps.now cs.now js.now }
     ensures second { restore_answer_second result ≡ judge_second (net_in net.now.words.now) ks.now ps.now cs.now js.now }
 {
     if bad_positions(ks, ps, net, begins_closed(cs)) {
-        return RestoreAnswer::Positions;
+        return Err(RestoreError::Positions);
     }
     if bad_counts(ks, cs, net) {
-        return RestoreAnswer::Counts;
+        return Err(RestoreError::Counts);
     }
     let counted = CountedBodies {
         net: *net,
@@ -54,21 +52,27 @@ fn judge_bodies<'a>(
         counts: cs,
     };
     if counted.bad_jumps(js) {
-        return RestoreAnswer::Jumps;
+        return Err(RestoreError::Jumps);
     }
-    RestoreAnswer::Taken
+    Ok(())
 }
 
-// The register's bytes, then those of positions, counts and jumps.
-pub fn judge(ks: &[u8], ps: &[u8], cs: &[u8], js: &[u8], net: &LoadedNet) -> RestoreAnswer
+// The register's bytes, then those of positions, counts and jumps. They are lent one by one: a struct of them would be made where a
+// record is split, and taken apart here.
+#[tactic(auto, using(crate::proofs::Verdicts::register))]
+pub fn judge(
+    ks: &[u8],
+    ps: &[u8],
+    cs: &[u8],
+    js: &[u8],
+    net: &LoadedNet,
+) -> Result<(), RestoreError>
     ensures code { restore_answer_code result ≡ judge_code (net_in net.now.words.now) ks.now ps.now cs.now js.now }
     ensures second { restore_answer_second result ≡ judge_second (net_in net.now.words.now) ks.now ps.now cs.now js.now }
 {
     if !whole(ks, net.words) {
-        return RestoreAnswer::Objects(0);
+        return Err(RestoreError::Rows);
     }
-    match register_refusal(ks, net) {
-        Ok(()) => judge_bodies(ks, ps, cs, js, net),
-        Err(refused) => RestoreAnswer::Objects(refused.number()),
-    }
+    register_refusal(ks, net)?;
+    judge_bodies(ks, ps, cs, js, net)
 }

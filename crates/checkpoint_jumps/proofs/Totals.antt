@@ -1,6 +1,6 @@
 -- Sums and searches below a number. Assumes nothing.
 use Prim.Native.Nat.{ℕ, zero, suc, ◌+◌, ◌*◌, ◌<◌}
-use mathlib.Core.Bool.{Bool, not}
+use mathlib.Core.Bool.{Bool, true, false, not}
 use mathlib.Core.Path.{◌≡◌, refl, ap, sym, ◌∙◌}
 use mathlib.Core.List.{List, [], ◌∷◌}
 use native.Mathlib.Omega.{arith}
@@ -10,7 +10,13 @@ use lib.ListN.{length, get_or}
 use Rattle.words.specs.Lists.{any_to, total, sum_to}
 use Rattle.words.proofs.Lists.{is_eq, not_eqb, any_to-none, any_to-false}
 use Rattle.words.proofs.Sums.{sum_to-same, sum_to-zero, sum_to-add, sum_to-append, term-le}
-use Rattle.checkpoint_counts.proofs.Searches.{same_false}
+
+-- two tests that fail together
+pub same_false : (a b : Bool) → (a ≡ false → b ≡ false) → (b ≡ false → a ≡ false) → a ≡ b
+same_false true true f g = refl
+same_false true false f g = g refl
+same_false false true f g = sym (f refl)
+same_false false false f g = refl
 
 -- a sum is 0 where each of its terms is
 pub sum-none : (n : ℕ) (f : ℕ → ℕ) → sum_to n f ≡ 0 → (i : ℕ) → i < n → f i ≡ 0

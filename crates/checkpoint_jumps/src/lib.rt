@@ -4,7 +4,8 @@
 
 #![tactic(auto)]
 
-ghost use Rattle.std.specs.Prelude.{[], ◌≡◌, ℕ, ◌+◌, ◌*◌, ◌<◌, ◌≤◌, ltb, eqb, length, get_or};
+ghost use Rattle.std.specs.Prelude.{[], ◌≡◌, ℕ, ◌+◌, ◌*◌, ◌^◌, ◌<◌, ◌≤◌, ltb, eqb, length, get_or, sum};
+ghost use Rattle.std.specs.List.{list_any, zip};
 ghost use Rattle.words.specs.Lists.{pick, any_to, sum_to};
 ghost use Rattle.words.specs.Words.{words_of};
 ghost use Rattle.net.specs.Held.{net_in};
@@ -41,7 +42,7 @@ fn foreign_count(net: &LoadedNet, k: usize, y: usize, v: u64) -> u64
 }
 
 // Row x of the jumps: its counts are added to the columns' sums. The sum of those that no jump can have.
-// The sums are a plain array here and below: their bound grows from row to row, and a ghost field over the array cannot name the row.
+// The sums are a plain array where they grow: their bound grows from row to row, and a ghost field over the array cannot name the row.
 #[tactic(auto, using(crate::proofs::Bounds::few))]
 fn add_row(js: &[u8], net: &LoadedNet, x: usize, into: &mut [u64; 64]) -> u64
     requires known_places { (x < (net_in net.now.words.now).places) × (length (words_of js.now) ≡ (net_in net.now.words.now).places * (net_in net.now.words.now).places) }
@@ -78,13 +79,12 @@ fn add_rows(js: &[u8], net: &LoadedNet, into: &mut [u64; 64]) -> u64
     off
 }
 
-// The first n sums together.
-fn sum_row(into: &[u64; 64], n: usize) -> u64
-    requires bounded { n ≤ 64 }
-    requires at_most { AtMost n 274877906944 into.now }
-    ensures { result ≡ sum_to n (λ (q : ℕ). get_or into.now q 0) }
+// All sums together.
+fn sum_row(sums: &[u64]) -> u64
+    requires fits { sum sums.now < 2 ^ 64 }
+    ensures { result ≡ sum sums.now }
 {
-    into[..n].iter().sum()
+    sums.iter().sum()
 }
 
 // What `fired` events of activity a take of kind k.
@@ -113,12 +113,11 @@ fn take_arcs(net: &LoadedNet, a: usize, fired: u32, taken: &mut [u64; 64])
     }
 }
 
-// One of the first n sums of `into` is above that of `taken`.
-fn above(taken: &[u64; 64], into: &[u64; 64], n: usize) -> bool
-    requires { n ≤ 64 }
-    ensures { result ≡ any_to n (λ (q : ℕ). ltb (get_or taken.now q 0) (get_or into.now q 0)) }
+// A sum of `into` is above the one of `taken` that it stands beside.
+fn above(taken: &[u64], into: &[u64]) -> bool
+    ensures { result ≡ list_any (λ (p : ℕ × ℕ). ltb p.0 p.1) (zip taken.now into.now) }
 {
-    (0..n).any(|q| taken[q] < into[q])
+    taken.iter().zip(into).any(|(t, i)| t < i)
 }
 
 impl CountedBodies<'_> {
@@ -164,7 +163,8 @@ impl CountedBodies<'_> {
         let mut taken = [0u64; 64];
         self.take_inputs(&mut taken);
         self.take_closed(&mut taken);
-        above(&taken, into, self.net.places())
+        let n = self.net.places();
+        above(&taken[..n], &into[..n])
     }
 
     // 47: length, counts that no jump can have, the sum, IN above TAKEN.
@@ -181,6 +181,6 @@ impl CountedBodies<'_> {
         }
         let jumps = sum_every(self.counts, JUMPS, self.net.acts())
             + u64::from(get_word(self.counts, CLOSING));
-        sum_row(&into, self.net.places()) != jumps || self.above_taken(&into)
+        sum_row(&into[..self.net.places()]) != jumps || self.above_taken(&into)
     }
 }

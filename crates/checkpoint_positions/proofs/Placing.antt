@@ -1,16 +1,15 @@
 -- Test 45, object by object, and over all objects at once. Assumes nothing.
-use Prim.Native.Nat.{ℕ, zero, suc, ◌*◌, ◌<◌}
+use Prim.Native.Nat.{ℕ, ◌*◌, ◌<◌}
 use mathlib.Core.Bool.{Bool, true, false, not}
 use mathlib.Core.Path.{◌≡◌, refl, ap, ◌∙◌}
 use mathlib.Core.List.{List, [], ◌∷◌}
 use native.Mathlib.Decide.{ℕ_discrete}
-use native.Mathlib.Numerals.{add-one}
 use lib.ListN.{length, get_or}
 use lib.Dec.{leb, eqb}
-use Rattle.std.proofs.Common.{◌||◌}
 use borrow.Author.Tests.{eq-eqb, ne_eqb, lt-leb}
 use Rattle.std.specs.List.{list_any, range_with_len}
-use Rattle.words.specs.Lists.{pick, any, either, both, upto}
+use Rattle.words.specs.Lists.{pick, any, either, both}
+use Rattle.words.proofs.Chains.{any_to-is}
 use Rattle.words.proofs.Lists.{both_false}
 use Rattle.net.specs.Net.{Net, Loaded}
 use Rattle.replay.specs.Plain.{closers}
@@ -54,20 +53,11 @@ module _ {A : Type 0} (f g h : A → Bool) (c : Bool) where
   three [] = rw (both_false c false (λ q. refl))
   three (x ∷ xs) = rw (three xs) (or_swap (f x) (any f xs) (g x) (any g xs) (both c (h x)) (both c (any h xs)) ∙ ap (λ (b : Bool). either (pick (f x) true (any f xs) ∷ pick (g x) true (any g xs) ∷ b ∷ [])) (or-both c (h x) (any h xs)))
 
--- a search along a range
-any-range : (f : ℕ → Bool) (n i : ℕ) → list_any f (range_with_len i n) ≡ any f (upto n i)
-any-range f zero i = refl
-any-range f (suc n) i = rw (add-one, any-range f n (suc i)) (or-pick (f i) (any f (upto n (suc i))))
-  where
-    or-pick : (a b : Bool) → (a || b) ≡ pick a true b
-    or-pick true b = refl
-    or-pick false b = refl
-
 -- the whole test, object by object; the close takes every object
 module _ (N : Net) (d : State) (size : ℕ) (closed : Bool) where
   pub positions-hit : size ≡ 4 * length d.kinds → list_any (λ (o : ℕ). bad_position N closed (get_or d.kinds o 0) (get_or d.places o 0)) (range_with_len 0 (length d.kinds)) ≡ hit (tests45 N d size closed)
   positions-hit e =
-      any-range (λ (o : ℕ). bad_position N closed (get_or d.kinds o 0) (get_or d.places o 0)) (length d.kinds) 0
+      any_to-is (λ (o : ℕ). bad_position N closed (get_or d.kinds o 0) (get_or d.places o 0)) (length d.kinds)
       ∙ rw (eq-eqb size (4 * length d.kinds) e)
       (three (λ (o : ℕ). leb N.places (get_or d.places o 0)) (λ (o : ℕ). not (eqb (N.kind_of (get_or d.places o 0)) (get_or d.kinds o 0)))
       (λ (o : ℕ). not (eqb (get_or d.places o 0) (N.sink (get_or d.kinds o 0)))) closed (closers d.kinds))

@@ -28,7 +28,8 @@ fn bad_position(net: &LoadedNet, k: usize, p: usize, closed: bool) -> bool
 }
 
 // 45: one row for each object, each on a known place of its kind, and on its sink in a closed trail,
-// whose close took every object (`closers`).
+// whose close took every object (`closers`). That the register is not refused is a clause here and where a trail is started: in each
+// place it stands beside other facts of the register, and no struct has both.
 pub fn bad_positions(ks: &[u8], ps: &[u8], net: &LoadedNet, closed: bool) -> bool
     requires registered { register_code (net_in net.now.words.now) (kinds_in (net_in net.now.words.now) ks.now) ≡ 0 }
     ensures { result ≡ hit (tests45 (net_in net.now.words.now) (body_state (net_in net.now.words.now) ks.now ps.now [] []) (length ps.now) closed) }

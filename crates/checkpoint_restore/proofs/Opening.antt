@@ -1,23 +1,20 @@
 -- A record's bodies as parts of its bytes, and its number by theirs. Assumes nothing.
 use Prim.Native.Nat.{ℕ, ◌+◌, ◌-◌, ◌*◌, ◌/◌, ◌%◌, ◌≤◌, ◌<◌}
 use mathlib.Core.Bool.{Bool, true, false, not}
-use mathlib.Core.Path.{◌≡◌, refl, ap, ap₂, sym, subst, ◌∙◌}
+use mathlib.Core.Path.{◌≡◌, refl, ap, ap₂, sym, ◌∙◌}
 use mathlib.Core.List.{List, [], ◌∷◌, ◌++◌}
 use native.Mathlib.Omega.{arith}
 use native.Mathlib.Decide.{dec_le}
 use lib.ListN.{length, take, drop, length-take, length-drop}
 use lib.Seq.{get_or-take}
 use lib.Dec.{ltb, leb, eqb}
-use borrow.Author.Tests.{eqb-true, eqb-false, eq-eqb, ne_eqb, lt-ltb, le-ltb, lt-leb}
-use Rattle.words.specs.Lists.{pick, over, both}
+use borrow.Author.Tests.{eqb-true, eq-eqb, ne_eqb, lt-ltb, le-ltb, lt-leb}
+use Rattle.words.specs.Lists.{pick, both}
 use Rattle.words.specs.Refusals.{first}
 use Rattle.words.specs.Words.{word, words_of, bodies_of, ends_at}
 use Rattle.words.proofs.Lists.{is_eq}
 use Rattle.words.proofs.Refusals.{first_then, first-stays}
 use Rattle.net.specs.Net.{Net}
-use Rattle.net.specs.declared.LoadError.{LoadError}
-use Rattle.net.specs.Answer.{load_error_code}
-use Rattle.net.proofs.Numbers.{not_taken}
 use Rattle.net.specs.Table.{load_code}
 use Rattle.net.specs.Held.{loaded_words, net_in}
 use Rattle.net.proofs.HeldLaws.{loaded-tabled}
@@ -28,7 +25,11 @@ use Rattle.replay.specs.Record.{counts_size, words_from, table_in, state_in}
 use Rattle.replay.specs.Calls.{net_at, state_at}
 use Rattle.checkpoint.specs.Restore.{begins_closed, tests44, tests45, tests46, tests47, body_tests, restore_tests, restore_code, restore_second}
 use Rattle.checkpoint.specs.Take.{Framed, Opened, take_code, take_bytes}
+use Rattle.checkpoint.specs.Calls.{save_tests, save_code, save_bytes}
 use Rattle.checkpoint_judge.specs.Judge.{closed_by, judge_code, judge_second}
+use Rattle.net.specs.Answer.{load_error_code}
+use Rattle.net.specs.contracts.LoadErrorRefusal.TheImpl.Laws.{not_zero-law}
+use Rattle.net.specs.declared.LoadError.{LoadError}
 use Rattle.words.proofs.Words.{words_take, word-drop}
 use Rattle.checkpoint.proofs.Spans.{ends-at}
 use Rattle.checkpoint_judge.proofs.Verdicts.{judge-not-43}
@@ -101,6 +102,19 @@ module _ (b : List ℕ) (F : Framed b) where
   unfolding bodies_of
   spread = let e = ends-at b record_bodies 0 record_head (length b) F.laid in record { at0 = omega arith; at8 = omega arith; at16 = omega arith; at24 = omega arith; at32 = omega arith; end = omega arith }
 
+  -- each body starts where the one before it ends or behind that, and the last within the record
+  pub register_first : word b 8 ≤ word b 16
+  register_first = let s = spread in omega arith
+
+  pub positions_next : word b 16 ≤ word b 24
+  positions_next = let s = spread in omega arith
+
+  pub counts_next : word b 24 ≤ word b 32
+  counts_next = let s = spread in omega arith
+
+  pub jumps_last : word b 32 ≤ length b
+  jumps_last = let s = spread in omega arith
+
   -- the bytes of register, positions, counts and jumps
   abbrev pub ks : List ℕ
   ks = take (word b 12) (drop (word b 8) b)
@@ -168,99 +182,97 @@ module _ (b : List ℕ) (F : Framed b) where
         last true false x y h = refl
         last false t x y h = refl
 
-  -- what loading the record's table leaves
-  pub opened : load_code (table_in b) ≡ 0 → Opened b (loaded_words (table_in b))
+  -- the part that is loaded is the table
+  pub table_end : record_head + word b 4 ≤ length b
+  table_end = let s = spread in omega arith
+
+  pub part_is : (end : ℕ) → end ≡ word b 4 → take (record_head + end - record_head) (drop record_head b) ≡ table_in b
+  part_is end e =
+      let l : record_head + end - record_head ≡ word b 4 = omega (arith, e) in
+      ap (λ (n : ℕ). take n (drop record_head b)) l ∙ sym table-part
+
+  -- what loading it leaves
+  pub opened : load_code (table_in b) ≡ 0 → (w : List ℕ) → w ≡ loaded_words (table_in b) → Opened b w
   unfolding net_at
-  opened z = let t = loaded-tabled (table_in b) z (loaded_words (table_in b)) refl in record { framed = F; loads = z; held = t.held; net = t.net }
+  opened z w e = let t = loaded-tabled (table_in b) z w e in record { framed = F; loads = z; held = t.held; net = t.net }
 
-  table-code : (load_code (table_in b) ≡ 0 → ⊥) → 43 ≡ restore_code b
+  pub table_refused : (load_code (table_in b) ≡ 0 → ⊥) → restore_code b ≡ 43
   unfolding restore_code
-  table-code n = rw (le-ltb (length b) 40 F.size-ge, le-ltb max_record (length b) F.size-le, F.laid, ne_eqb (load_code (table_in b)) 0 n)
+  table_refused n = rw (le-ltb (length b) 40 F.size-ge, le-ltb max_record (length b) F.size-le, F.laid, ne_eqb (load_code (table_in b)) 0 n) refl
 
-  pub table-refused : (load_code (table_in b) ≡ 0 → ⊥) → (43 ≡ restore_code b) × (load_code (table_in b) ≡ restore_second b)
+  pub table_second : (load_code (table_in b) ≡ 0 → ⊥) → restore_second b ≡ load_code (table_in b)
   unfolding restore_second
-  table-refused n = (table-code n, rw (← table-code n))
-
-  -- the part that is loaded is the table: where it is refused, and where the words w got its net
-  module _ (end : ℕ) (e : end ≡ word b 4) where
-    part-is : take (record_head + end - record_head) (drop record_head b) ≡ table_in b
-    part-is =
-        let l : record_head + end - record_head ≡ word b 4 = omega (arith, e) in
-        ap (λ (n : ℕ). take n (drop record_head b)) l ∙ sym table-part
-
-    pub part_refused : (r : LoadError) (n : ℕ) → load_error_code r ≡ load_code (take (record_head + end - record_head) (drop record_head b)) → n ≡ load_error_code r
-        → (43 ≡ restore_code b) × (n ≡ restore_second b)
-    part_refused r n h q =
-        let code = h ∙ ap load_code part-is in
-        let t = table-refused (λ z. not_taken r (code ∙ z)) in
-        (t.0, q ∙ code ∙ t.1)
-
-    pub part_opened : (w : List ℕ) → 0 ≡ load_code (take (record_head + end - record_head) (drop record_head b))
-        → (load_code (take (record_head + end - record_head) (drop record_head b)) ≡ 0 → w ≡ loaded_words (take (record_head + end - record_head) (drop record_head b)))
-        → Opened b w
-    part_opened w z h = subst (Opened b) (sym (h (sym z) ∙ ap loaded_words part-is)) (opened (sym (z ∙ ap load_code part-is)))
+  table_second n = rw (table_refused n) refl
 
 -- the parts that the code cuts out are the bodies
-module _ (b w : List ℕ) (O : Opened b w) where
-  pub judged : (k p c j : ℕ) → k ≡ word b 8 → p ≡ word b 16 → c ≡ word b 24 → j ≡ word b 32
-      → let ks : List ℕ = take (p - k) (drop k b) in let ps : List ℕ = take (c - p) (drop p b) in let cs : List ℕ = take (j - c) (drop c b) in let js : List ℕ = take (length b - j) (drop j b) in
-      (judge_code (net_in w) ks ps cs js ≡ restore_code b) × (judge_second (net_in w) ks ps cs js ≡ restore_second b)
-  judged k p c j e8 e16 e24 e32 =
-      let F = O.framed in
-      let s = spread b F in
-      let n = O.net in
-      let k-is : take (p - k) (drop k b) ≡ ks b F = part (p - k) (word b 12) k (word b 8) (omega arith) e8 in
-      let p-is : take (c - p) (drop p b) ≡ ps b F = part (c - p) (word b 20) p (word b 16) (omega arith) e16 in
-      let c-is : take (j - c) (drop c b) ≡ cs b F = part (j - c) (word b 28) c (word b 24) (omega arith) e24 in
-      let j-is : take (length b - j) (drop j b) ≡ js b F = part (length b - j) (word b 36) j (word b 32) (omega arith) e32 in
-      (rw (n, k-is, p-is, c-is, j-is) (sym (code-judged b F O.loads)), rw (n, k-is, p-is, c-is, j-is) (sym (second-judged b F O.loads)))
-    where
-      part : (n m i l : ℕ) → n ≡ m → i ≡ l → take n (drop i b) ≡ take m (drop l b)
-      part n m i l e f = ap₂ (λ (n i : ℕ). take n (drop i b)) e f
+module _ (b w : List ℕ) (O : Opened b w) (k p c j : ℕ) (e8 : k ≡ word b 8) (e16 : p ≡ word b 16) (e24 : c ≡ word b 24) (e32 : j ≡ word b 32) where
+  part : (n m i l : ℕ) → n ≡ m → i ≡ l → take n (drop i b) ≡ take m (drop l b)
+  part n m i l e f = ap₂ (λ (n i : ℕ). take n (drop i b)) e f
 
--- the numbers that come before the table's, which have no second number
+  parts : (take (p - k) (drop k b) ≡ ks b O.framed) × (take (c - p) (drop p b) ≡ ps b O.framed) × (take (j - c) (drop c b) ≡ cs b O.framed) × (take (length b - j) (drop j b) ≡ js b O.framed)
+  parts =
+      let s = spread b O.framed in (
+        part (p - k) (word b 12) k (word b 8) (omega arith) e8,
+        part (c - p) (word b 20) p (word b 16) (omega arith) e16,
+        part (j - c) (word b 28) c (word b 24) (omega arith) e24,
+        part (length b - j) (word b 36) j (word b 32) (omega arith) e32,
+      )
+
+  pub judged_code : judge_code (net_in w) (take (p - k) (drop k b)) (take (c - p) (drop p b)) (take (j - c) (drop c b)) (take (length b - j) (drop j b)) ≡ restore_code b
+  judged_code = let a = parts in rw (O.net, a.0, a.1, a.2, a.3) (sym (code-judged b O.framed O.loads))
+
+  pub judged_second : judge_second (net_in w) (take (p - k) (drop k b)) (take (c - p) (drop p b)) (take (j - c) (drop c b)) (take (length b - j) (drop j b)) ≡ restore_second b
+  judged_second = let a = parts in rw (O.net, a.0, a.1, a.2, a.3) (sym (second-judged b O.framed O.loads))
+
+-- the numbers that come before the table's; only 43 and 44 have a second
 module _ (b : List ℕ) where
-  alone : (n : ℕ) → n ≡ restore_code b → eqb n 43 ≡ false → eqb n 44 ≡ false → 0 ≡ restore_second b
+  pub no_second : (restore_code b ≡ 43 → ⊥) → (restore_code b ≡ 44 → ⊥) → restore_second b ≡ 0
   unfolding restore_second
-  alone n e f g = rw (← e, f, g)
+  no_second n m = rw (ne_eqb (restore_code b) 43 n, ne_eqb (restore_code b) 44 m) refl
 
-  pub too_short : length b < 40 → (41 ≡ restore_code b) × (0 ≡ restore_second b)
+  pub too_short : length b < 40 → restore_code b ≡ 41
   unfolding restore_code
-  too_short h = let e : 41 ≡ restore_code b = rw (lt-ltb (length b) 40 h) in (e, alone 41 e refl refl)
+  too_short h = rw (lt-ltb (length b) 40 h) refl
 
-  pub too_long : 40 ≤ length b → max_record < length b → (41 ≡ restore_code b) × (0 ≡ restore_second b)
+  pub too_long : 40 ≤ length b → max_record < length b → restore_code b ≡ 41
   unfolding restore_code
-  too_long g h = let e : 41 ≡ restore_code b = rw (le-ltb (length b) 40 g, lt-ltb max_record (length b) h) in (e, alone 41 e refl refl)
+  too_long g h = rw (le-ltb (length b) 40 g, lt-ltb max_record (length b) h) refl
 
-  pub short_second : length b < 40 → 0 ≡ restore_second b
-  short_second h = (too_short h).1
-
-  pub long_second : 40 ≤ length b → max_record < length b → 0 ≡ restore_second b
-  long_second g h = (too_long g h).1
-
-  pub not-laid : 40 ≤ length b → length b ≤ max_record → ends_at (length b) (bodies_of record_bodies b) ≡ false → (42 ≡ restore_code b) × (0 ≡ restore_second b)
+  pub not_laid : 40 ≤ length b → length b ≤ max_record → ends_at (length b) (bodies_of record_bodies b) ≡ false → restore_code b ≡ 42
   unfolding restore_code
-  not-laid g h e = let q : 42 ≡ restore_code b = rw (le-ltb (length b) 40 g, le-ltb max_record (length b) h, e) in (q, alone 42 q refl refl)
+  not_laid g h e = rw (le-ltb (length b) 40 g, le-ltb max_record (length b) h, e) refl
+
+-- a table's refusal has a number
+pub load_refused : (e : LoadError) → load_error_code e ≡ 0 → ⊥
+load_refused = not_zero-law
 
 -- taking up the record b into lent bytes
 module _ (b lent : List ℕ) where
-  refused-code : (n : ℕ) → n ≡ restore_code b → eqb n 0 ≡ false → n ≡ take_code b (length lent)
-  unfolding take_code restore_code
-  refused-code n e f = e ∙ sym (first-stays (restore_tests b) ((ltb (length lent) (length b), 61) ∷ []) (λ z. eqb-false n 0 f (e ∙ z)))
-
-  pub take-refused : (n : ℕ) → n ≡ restore_code b → eqb n 0 ≡ false → (n ≡ take_code b (length lent)) × (lent ≡ take_bytes b lent)
-  unfolding take_bytes
-  take-refused n e f = (refused-code n e f, rw (← refused-code n e f, f))
-
-  module _ (z : restore_code b ≡ 0) where
-    room : take_code b (length lent) ≡ pick (ltb (length lent) (length b)) 61 0
+  -- the check refuses it
+  module _ (n : restore_code b ≡ 0 → ⊥) where
+    pub stays_refused : take_code b (length lent) ≡ restore_code b
     unfolding take_code restore_code
-    room = first_then (restore_tests b) ((ltb (length lent) (length b), 61) ∷ []) z (omega arith)
+    stays_refused = first-stays (restore_tests b) ((ltb (length lent) (length b), 61) ∷ []) n
 
-    pub take_short : length lent < length b → (61 ≡ take_code b (length lent)) × ((0 ≡ restore_second b) × (lent ≡ take_bytes b lent))
+    pub bytes_stay : take_bytes b lent ≡ lent
     unfolding take_bytes
-    take_short h = (rw (room, lt-ltb _ _ h), (alone b 0 (sym z) refl refl, rw (room, lt-ltb _ _ h)))
+    bytes_stay = rw (stays_refused, ne_eqb (restore_code b) 0 n) refl
 
-    pub take-fits : length b ≤ length lent → (0 ≡ take_code b (length lent)) × ((0 ≡ restore_second b) × (over b lent ≡ take_bytes b lent))
-    unfolding take_bytes
-    take-fits h = (rw (room, le-ltb _ _ h), (alone b 0 (sym z) refl refl, rw (room, le-ltb _ _ h)))
+  -- the check takes it: it is taken up as a save of it is put down
+  module _ (z : restore_code b ≡ 0) where
+    pub as_saved : take_code b (length lent) ≡ save_code b (length lent)
+    unfolding take_code restore_code save_code
+    as_saved = first_then (restore_tests b) (save_tests b (length lent)) z (omega arith)
+
+    pub bytes_as_saved : take_bytes b lent ≡ save_bytes b lent
+    unfolding take_bytes save_bytes
+    bytes_as_saved = rw as_saved refl
+
+-- the steps of the check: the bodies, the table, the length and the contents; and taking up
+pub ruleset bodies = (register_first, positions_next, counts_next, jumps_last, judged_code, judged_second)
+
+pub ruleset table = (load_refused, table_end, part_is, opened, table_refused, table_second)
+
+pub ruleset contents = (too_short, too_long, not_laid, no_second)
+
+pub ruleset takes = (stays_refused, bytes_stay, as_saved, bytes_as_saved, no_second)

@@ -6,7 +6,7 @@ use Rattle.words.specs.Words.{words_of}
 use Rattle.net.specs.Held.{net_in}
 use Rattle.net.proofs.HeldLaws.{held-loaded}
 use Rattle.replay_layout.specs.Offsets.{fired_index, jumps_index}
-use Rattle.checkpoint_counts.proofs.Searches.{range-any_to}
+use Rattle.words.proofs.Chains.{any_to-is}
 use Rattle.checkpoint_counts.proofs.some_jumps_above.Goals as goal
 
 pub any-requires-clause-callable : goal.any-requires-clause-callable
@@ -21,4 +21,4 @@ returns c =
     let N = net_in c.args.net.now.words.now in
     let over : ℕ → Bool = λ a. ltb (get_or (words_of c.args.cs.now) (fired_index a) 0 * length (N.arcs a)) (get_or (words_of c.args.cs.now) (jumps_index a) 0) in
     any_from_yields_List over _ _ c.any.result c.any.ensures.ran (YieldsList-from_range 0 c.acts.result N.acts refl (omega arith)) (λ x b q k. search (rules, tests))
-    ∙ range-any_to N.acts over
+    ∙ any_to-is over N.acts
