@@ -7,7 +7,8 @@ use native.Mathlib.Decide.{ℕ_discrete}
 use native.Mathlib.Omega.{arith}
 use lib.Dec.{ltb, leb}
 use lib.ListN.{length, take, drop, length-take, length-drop}
-use borrow.Author.Tests.{ltb-true, ltb-false, leb-false, lt-ltb, eq-eqb, ne_eqb}
+use borrow.Author.Tests.{ltb-true, ltb-false, leb-false, lt-ltb, le-ltb, eq-eqb, ne_eqb}
+use Rattle.std.specs.Prelude.{Some, None}
 use Rattle.words.specs.Lists.{pick, All}
 use Rattle.words.specs.Refusals.{first}
 use Rattle.words.specs.Words.{word}
@@ -17,9 +18,8 @@ use Rattle.words.proofs.Words.{length-words}
 use Rattle.net.specs.Net.{Net}
 use Rattle.replay.specs.Plain.{register_tests, register_code}
 use Rattle.replay.specs.Ready.{KnownKinds}
-use Rattle.replay.specs.Register.{row_bytes, max_register, kinds_in}
-use Rattle.trace_header.specs.declared.Contents.{Contents}
-use Rattle.trace_header.specs.declared.Contents.TheVariants.{Broken, Bodies}
+use Rattle.replay.specs.Register.{row_bytes, whole_body, max_register, kinds_in}
+use Rattle.trace_header.specs.declared.Bodies.{Bodies}
 use Rattle.trace_header.specs.Claims.{HeadEnough, OpenEnough}
 use Rattle.trace_header.specs.Opening.{contents_tests, contents_of, contents_code, register_of, trace_code, open_code}
 use Rattle.trace_header.proofs.SameBytes.{ltb-same, same_word, same-short}
@@ -35,17 +35,20 @@ one_code c (t ∷ ts) a n = go t.0 n (one_code c ts a.1)
 
 module _ (N : Net) (f : List ℕ) where
   -- what the contents say
-  pub contents-broken : contents_of N f ≡ Broken → first (contents_tests N f) ≡ 71
-  unfolding contents_of
-  contents-broken e = one_code 71 (contents_tests N f) (refl, (refl, (refl, (refl, tt)))) (λ z. let q : Bodies (word f 4) (word f 12) ≡ Broken = rw (eq-eqb (first (contents_tests N f)) 0 z) at e in let x : ◌≡◌ {A = ℕ} 0 1 = cc in omega arith)
+  abbrev bodies : Bodies
+  bodies = record { register = word f 4; events = word f 12 }
 
-  pub contents-bodies : (r e : ℕ) → contents_of N f ≡ Bodies r e → (first (contents_tests N f) ≡ 0) × (r ≡ word f 4) × (e ≡ word f 12)
+  pub contents-broken : contents_of N f ≡ None → first (contents_tests N f) ≡ 71
   unfolding contents_of
-  contents-bodies r e p = go (ℕ_discrete (first (contents_tests N f)) 0)
+  contents-broken e = one_code 71 (contents_tests N f) (refl, (refl, (refl, (refl, tt)))) (λ z. let q : Some bodies ≡ None = rw (eq-eqb (first (contents_tests N f)) 0 z) at e in let x : ◌≡◌ {A = ℕ} 0 1 = cc in omega arith)
+
+  pub contents-bodies : (s : Bodies) → contents_of N f ≡ Some s → (first (contents_tests N f) ≡ 0) × (s.register ≡ word f 4) × (s.events ≡ word f 12)
+  unfolding contents_of
+  contents-bodies s p = go (ℕ_discrete (first (contents_tests N f)) 0)
     where
-      go : Dec (first (contents_tests N f) ≡ 0) → (first (contents_tests N f) ≡ 0) × (r ≡ word f 4) × (e ≡ word f 12)
-      go (yes z) = let q : Bodies (word f 4) (word f 12) ≡ Bodies r e = rw (eq-eqb (first (contents_tests N f)) 0 z) at p in (z, (cc), (cc))
-      go (no m) = let q : Broken ≡ Bodies r e = rw (ne_eqb (first (contents_tests N f)) 0 m) at p in let x : ◌≡◌ {A = ℕ} 0 1 = cc in absurd (omega arith)
+      go : Dec (first (contents_tests N f) ≡ 0) → (first (contents_tests N f) ≡ 0) × (s.register ≡ word f 4) × (s.events ≡ word f 12)
+      go (yes z) = let q : Some bodies ≡ Some s = rw (eq-eqb (first (contents_tests N f)) 0 z) at p in let e : bodies ≡ s = cc in (z, sym (ap (λ (x : Bodies). x.register) e), sym (ap (λ (x : Bodies). x.events) e))
+      go (no m) = let q : None ≡ Some s = rw (ne_eqb (first (contents_tests N f)) 0 m) at p in let x : ◌≡◌ {A = ℕ} 0 1 = cc in absurd (omega arith)
 
   -- contents that are not broken: they are there, and claim whole rows
   whole-head : first (contents_tests N f) ≡ 0 → (16 ≤ length f) × (word f 4 % row_bytes N ≡ 0)
@@ -54,13 +57,16 @@ module _ (N : Net) (f : List ℕ) where
   pub head-there : first (contents_tests N f) ≡ 0 → 16 ≤ length f
   head-there e = (whole-head e).0
 
-  pub whole-rows : (r e : ℕ) → contents_of N f ≡ Bodies r e → r % row_bytes N ≡ 0
-  whole-rows r e p = let q = contents-bodies r e p in ap (λ (n : ℕ). n % row_bytes N) q.1 ∙ (whole-head q.0).1
+  pub some_there : (s : Bodies) → contents_of N f ≡ Some s → 16 ≤ length f
+  some_there s p = head-there (contents-bodies s p).0
+
+  pub whole-rows : (s : Bodies) → contents_of N f ≡ Some s → s.register % row_bytes N ≡ 0
+  whole-rows s p = let q = contents-bodies s p in ap (λ (n : ℕ). n % row_bytes N) q.1 ∙ (whole-head q.0).1
 
   -- opening by what the contents say
-  pub open-broken : contents_of N f ≡ Broken → 71 ≡ trace_code N f
+  pub open_broken : contents_of N f ≡ None → 71 ≡ trace_code N f
   unfolding trace_code
-  open-broken e =
+  open_broken e =
       let c : first (contents_tests N f) ≡ 71 = contents-broken e in
       sym (first-stays (contents_tests N f) ((ltb (length f) (16 + word f 4), 71) ∷ register_tests N (register_of N f)) (λ q. omega arith) ∙ c)
 
@@ -94,10 +100,10 @@ module _ (N : Net) (f : List ℕ) where
   there-same : 16 ≤ length f → ltb (length f - 16) (word f 4) ≡ ltb (length f) (16 + word f 4)
   there-same h = ltb-same (length f - 16) (word f 4) (length f) (16 + word f 4) (λ l. omega arith) (λ l. omega arith)
 
-  pub open-held : (r e : ℕ) → contents_of N f ≡ Bodies r e → open_code N r (length f - 16) (kinds_in N (take r (drop 16 f))) ≡ trace_code N f
+  pub open_held : (s : Bodies) → contents_of N f ≡ Some s → open_code N s.register (length f - 16) (kinds_in N (take s.register (drop 16 f))) ≡ trace_code N f
   unfolding register_of
-  open-held r e p =
-      let q = contents-bodies r e p in
+  open_held s p =
+      let q = contents-bodies s p in
       rw q.1 (open_by (length f - 16) (kinds_in N (take (word f 4) (drop 16 f))) q.0 (there-same (head-there q.0)) (λ h g. refl))
 
   -- the number that the contents give
@@ -109,8 +115,35 @@ module _ (N : Net) (f : List ℕ) where
       go (yes e) = rw (eq-eqb (first (contents_tests N f)) 0 e) (sym e)
       go (no m) = rw (ne_eqb (first (contents_tests N f)) 0 m) (sym (one_code 71 (contents_tests N f) (refl, (refl, (refl, (refl, tt)))) m))
 
-  pub with-contents-code : {r : Contents} → r ≡ contents_of N f → (r ≡ contents_of N f) × (contents_code r ≡ first (contents_tests N f))
-  with-contents-code e = (e, ap contents_code e ∙ contents-code)
+  pub broken_code : None ≡ contents_of N f → 71 ≡ first (contents_tests N f)
+  broken_code e = ap contents_code e ∙ contents-code
+
+  pub whole_code : (s : Bodies) → Some s ≡ contents_of N f → 0 ≡ first (contents_tests N f)
+  whole_code s e = ap contents_code e ∙ contents-code
+
+  -- the contents by the tests passed on the way
+  pub broken_short : length f < 16 → None ≡ contents_of N f
+  unfolding contents_of
+  broken_short h = rw (lt-ltb (length f) 16 h) refl
+
+  module _ (there : 16 ≤ length f) where
+    pub broken_start : (word f 0 ≡ 16 → ⊥) → None ≡ contents_of N f
+    unfolding contents_of
+    broken_start n = rw (le-ltb (length f) 16 there, ne_eqb (word f 0) 16 n) refl
+
+    module _ (start : word f 0 ≡ 16) where
+      pub broken_gap : (word f 8 ≡ 16 + word f 4 → ⊥) → None ≡ contents_of N f
+      unfolding contents_of
+      broken_gap n = rw (le-ltb (length f) 16 there, eq-eqb (word f 0) 16 start, ne_eqb (word f 8) (16 + word f 4) n) refl
+
+      module _ (follows : word f 8 ≡ 16 + word f 4) where
+        pub broken_rows : whole_body N (word f 4) ≡ false → None ≡ contents_of N f
+        unfolding contents_of
+        broken_rows n = rw (le-ltb (length f) 16 there, eq-eqb (word f 0) 16 start, eq-eqb (word f 8) (16 + word f 4) follows, n) refl
+
+        pub contents_whole : whole_body N (word f 4) ≡ true → Some bodies ≡ contents_of N f
+        unfolding contents_of
+        contents_whole w = rw (le-ltb (length f) 16 there, eq-eqb (word f 0) 16 start, eq-eqb (word f 8) (16 + word f 4) follows, w) refl
 
 -- what of the file opening needs
 pub open-enough : (N : Net) → OpenEnough N
@@ -126,6 +159,20 @@ head-enough N h f e =
       same_word 16 h f 0 e 8 (omega arith),
       same_word 16 h f 0 e 12 (omega arith),
     )
+
+-- opening by the tests passed on the way
+module _ (N : Net) (claimed there : ℕ) (ks : List ℕ) where
+  pub open_cut : there < claimed → 71 ≡ open_code N claimed there ks
+  unfolding open_code
+  open_cut h = rw (lt-ltb there claimed h) refl
+
+  pub open_long : claimed ≤ there → max_register N < claimed → 11 ≡ open_code N claimed there ks
+  unfolding open_code
+  open_long t h = rw (le-ltb there claimed t, lt-ltb (max_register N) claimed h) refl
+
+  pub open_register : claimed ≤ there → claimed ≤ max_register N → (c : ℕ) → c ≡ register_code N ks → c ≡ open_code N claimed there ks
+  unfolding open_code
+  open_register t h c e = rw (le-ltb there claimed t, le-ltb (max_register N) claimed h) e
 
 -- a register that is not refused is wholly there
 pub not-refused : (N : Net) (claimed there : ℕ) (ks : List ℕ) → open_code N claimed there ks ≡ 0 → (claimed ≤ there) × (register_code N ks ≡ 0)

@@ -1,13 +1,12 @@
 -- Opening a trail file (document 01 "Trail file, program, sheet"): contents of two pairs, register and events, then the bodies.
-use Rattle.std.specs.Prelude.{ℕ, ◌+◌, Bool, not, List, [], ◌∷◌, ◌++◌, length, take, drop, ltb, eqb}
+use Rattle.std.specs.Prelude.{ℕ, ◌+◌, Bool, not, List, [], ◌∷◌, ◌++◌, length, take, drop, ltb, eqb, Option, Some, None}
 use Rattle.words.specs.Lists.{pick}
 use Rattle.words.specs.Refusals.{first}
 use Rattle.words.specs.Words.{word}
 use Rattle.net.specs.Net.{Net}
 use Rattle.replay.specs.Plain.{register_tests}
 use Rattle.replay.specs.Register.{max_register, whole_body, kinds_in}
-use Rattle.trace_header.specs.declared.Contents.{Contents}
-use Rattle.trace_header.specs.declared.Contents.TheVariants.{Broken, Bodies}
+use Rattle.trace_header.specs.declared.Bodies.{Bodies}
 
 -- 71 by the first 16 bytes: too few of them, where the bodies start, a register of no whole rows
 abbrev pub contents_tests : Net → List ℕ → List (Bool × ℕ)
@@ -19,13 +18,13 @@ contents_tests N b =
     ∷ []
 
 -- the lengths of the two bodies, by the first 16 bytes
-unfoldable pub contents_of : Net → List ℕ → Contents
-contents_of N b = pick (eqb (first (contents_tests N b)) 0) (Bodies (word b 4) (word b 12)) Broken
+unfoldable pub contents_of : Net → List ℕ → Option Bodies
+contents_of N b = pick (eqb (first (contents_tests N b)) 0) (Some (record { register = word b 4; events = word b 12 })) None
 
 -- the paper's number: 71 for broken contents
-abbrev pub contents_code : Contents → ℕ
-contents_code Broken = 71
-contents_code (Bodies register events) = 0
+abbrev pub contents_code : Option Bodies → ℕ
+contents_code None = 71
+contents_code (Some bodies) = 0
 
 -- 71 in any of its causes: the last is a register that the file's end cuts short
 abbrev pub shape_tests : Net → List ℕ → List (Bool × ℕ)

@@ -4,15 +4,13 @@ use mathlib.Core.Path.{◌≡◌, refl, ap, sym, ◌∙◌}
 use mathlib.Core.List.{List}
 use native.Mathlib.Nat.{add-zero}
 use native.Mathlib.Omega.{arith}
-use lib.ListN.{take, drop}
+use lib.ListN.{length, take, drop}
 use lib.Seq.{drop-drop}
+use Rattle.std.specs.Prelude.{Some, None, Ok, Err}
 use Rattle.net.specs.Net.{Net, Loaded}
 use Rattle.replay.specs.Plain.{event}
 use Rattle.replay.specs.Calls.{ask_bytes}
-use Rattle.trace_reader.specs.declared.Answer.{Answer}
-use Rattle.trace_reader.specs.declared.Found.{Found}
-use Rattle.trace_reader.specs.declared.Found.TheVariants as found
-use Rattle.trace_reader.specs.Answers.{event_in}
+use Rattle.trace_reader.specs.Answers.{EventRead, Answer}
 use Rattle.trace_reader.specs.Trace.{read_from}
 use Rattle.trace_reader.proofs.WindowLaws.{window-enough}
 use Rattle.trace_reader.specs.Followed.{Followed, by_found, followed, final}
@@ -26,27 +24,19 @@ module _ (N : Net) (L : Loaded N) (ks f : List ℕ) (body i : ℕ) where
   followed-behind : (k : ℕ) (trail : List ℕ) (from at n : ℕ) → followed N ks f body k trail (i + from) at n ≡ followed N ks (drop i f) body k trail from at n
   unfolding followed
   followed-behind zero trail from at n = refl
-  followed-behind (suc k) trail from at n =
-      go here.found (followed-behind k (ask_bytes trail (event (event_in here.event))) (from + 8 + 4 * here.event.count) here.next.at (n + 1))
-      ∙ ap (there) (read_behind n from at)
+  followed-behind (suc k) trail from at n = go (followed-behind k) (read_from N ks n f (i + from) body at) ∙ ap there (read_behind n from at)
     where
-      here : Answer
-      here = read_from N ks n f (i + from) body at
-
       there : Answer → Followed
-      there a =
-          by_found a.found
-          (λ (u : Unit). followed N ks (drop i f) body k (ask_bytes trail (event (event_in a.event))) (from + 8 + 4 * a.event.count) a.next.at (n + 1))
-          (λ (c : ℕ). record { trail = trail; accepted = n; code = c })
+      there a = by_found a (λ (r : EventRead). followed N ks (drop i f) body k (ask_bytes trail (event r.event)) (from + 8 + 4 * length r.event.objs) r.next (n + 1)) (λ (c : ℕ). record { trail = trail; accepted = n; code = c })
 
-      go : (d : Found)
-          → followed N ks f body k (ask_bytes trail (event (event_in here.event))) (i + (from + 8 + 4 * here.event.count)) here.next.at (n + 1)
-          ≡ followed N ks (drop i f) body k (ask_bytes trail (event (event_in here.event))) (from + 8 + 4 * here.event.count) here.next.at (n + 1)
-          → by_found {A = Followed} d (λ (u : Unit). followed N ks f body k (ask_bytes trail (event (event_in here.event))) (i + from + 8 + 4 * here.event.count) here.next.at (n + 1)) (λ (c : ℕ). record { trail = trail; accepted = n; code = c })
-          ≡ by_found d (λ (u : Unit). followed N ks (drop i f) body k (ask_bytes trail (event (event_in here.event))) (from + 8 + 4 * here.event.count) here.next.at (n + 1)) (λ (c : ℕ). record { trail = trail; accepted = n; code = c })
-      go found.Event h = ap (λ (j : ℕ). followed N ks f body k (ask_bytes trail (event (event_in here.event))) j here.next.at (n + 1)) (omega arith) ∙ h
-      go found.End h = refl
-      go (found.Refused c) h = refl
+      go : ((trail : List ℕ) (from at n : ℕ) → followed N ks f body k trail (i + from) at n ≡ followed N ks (drop i f) body k trail from at n) → (a : Answer)
+          → by_found {A = Followed} a (λ (r : EventRead). followed N ks f body k (ask_bytes trail (event r.event)) (i + from + 8 + 4 * length r.event.objs) r.next (n + 1)) (λ (c : ℕ). record { trail = trail; accepted = n; code = c })
+          ≡ by_found {A = Followed} a (λ (r : EventRead). followed N ks (drop i f) body k (ask_bytes trail (event r.event)) (from + 8 + 4 * length r.event.objs) r.next (n + 1)) (λ (c : ℕ). record { trail = trail; accepted = n; code = c })
+      go same (Ok (Some r)) =
+          ap (λ (j : ℕ). followed N ks f body k (ask_bytes trail (event r.event)) j r.next (n + 1)) (omega arith)
+          ∙ same (ask_bytes trail (event r.event)) (from + 8 + 4 * length r.event.objs) r.next (n + 1)
+      go same (Ok None) = refl
+      go same (Err c) = refl
 
   pub final-behind : (trail : List ℕ) → final N ks f body trail i 0 0 ≡ final N ks (drop i f) body trail 0 0 0
   unfolding final

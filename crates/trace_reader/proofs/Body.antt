@@ -6,6 +6,7 @@ use native.Mathlib.Nat.{add-zero}
 use native.Mathlib.Omega.{arith}
 use lib.ListN.{length, take, drop, length-append}
 use lib.Seq.{drop-drop, take-add}
+use Rattle.std.specs.Prelude.{Some, None, Ok, Err}
 use Rattle.words.specs.Words.{word, words_of, words_at}
 use Rattle.words.proofs.Words.{words-drop, words-read, length_at}
 use Rattle.net.specs.Net.{Net, Loaded}
@@ -13,14 +14,10 @@ use Rattle.replay.specs.Plain as plain
 use Rattle.replay.specs.Record.{words_from}
 use Rattle.replay.specs.Calls.{ask_bytes}
 use Rattle.replay.proofs.Accepted.{accepted}
-use Rattle.trace_reader.specs.declared.Answer.{Answer}
-use Rattle.trace_reader.specs.declared.Found.{Found}
-use Rattle.trace_reader.specs.declared.Found.TheVariants as found
-use Rattle.trace_reader.specs.Answers.{found_code, event_in}
+use Rattle.trace_reader.specs.Answers.{EventRead, Answer}
 use Rattle.trace_reader.specs.Claims.{Handed}
-use Rattle.trace_reader.specs.Trace.{event_at, event_found, read_code, read_from}
-use Rattle.trace_reader.proofs.HandedLaws.{tells, handed, read-code}
-use Rattle.trace_reader.proofs.ObjectLaws.{first-of-eight}
+use Rattle.trace_reader.specs.Trace.{event_at, read_code, read_from}
+use Rattle.trace_reader.proofs.HandedLaws.{answer_number, event_read, tells, handed, read-code}
 use Rattle.trace_reader.specs.Followed.{Followed, by_found, followed, handed_out, final, events_read}
 use Rattle.trace_reader.specs.AllEvents.{numbers, AllOf}
 
@@ -60,59 +57,53 @@ module _ (N : Net) (L : Loaded N) (ks f : List ℕ) (body : ℕ) where
     abbrev answered : Answer
     answered = read_from N ks n f from body at
 
-    stopped : (d : Found) → answered.found ≡ d → (found_code d ≡ 0 → at ≡ body) → From from at n [] (found_code d)
+    stopped : (d : Answer) → answered ≡ d → (answer_number d ≡ 0 → at ≡ body) → From from at n [] (answer_number d)
     unfolding words_from
     stopped d p w = record {
       stand = refl;
-      code_is = sym (ap found_code p) ∙ read-code N ks n f from body at ∙ same_code (sym (add-zero n)) (sym (add-zero from)) (sym (add-zero at));
+      code_is = sym (ap answer_number p) ∙ read-code N ks n f from body at ∙ same_code (sym (add-zero n)) (sym (add-zero from)) (sym (add-zero at));
       whole = λ z. add-zero at ∙ w z;
     }
 
     -- the event there is the one whose numbers stand there
-    module _ (p : answered.found ≡ found.Event) where
-      is_found : answered ≡ event_found f from at
-      is_found = (tells N ks n f from body at found.Event p).1
-
-      h : Handed N ks n (length f) from body at (event_found f from at)
-      h = subst (Handed N ks n (length f) from body at) is_found (handed N L ks n f from body at p)
-
-      event-is : event_in answered.event ≡ event_at f from
-      event-is =
-          ap (λ (a : Answer). event_in a.event) is_found
-          ∙ ap {B = plain.Event} (λ (os : List ℕ). plain.event_of (word f from) os) (first-of-eight (objects f from) (count f from) (length_at f (from + 8) (count f from)) h.few)
+    module _ (r : EventRead) (p : answered ≡ Ok (Some r)) where
+      h : Handed N ks n (length f) from body at r
+      h = handed N L ks n f from body at r p
 
       few : n < 1000000
-      few = (accepted N ks 0 n (event_in (event_found f from at).event) h.taken).few
+      few = (accepted N ks 0 n r.event h.taken).few
 
-      one_more : (es : List plain.Event) (code : ℕ) → From (from + 8 + 4 * answered.event.count) answered.next.at (n + 1) es code → From from at n (event_in answered.event ∷ es) code
+      one_more : (es : List plain.Event) (code : ℕ) → From (from + 8 + 4 * length r.event.objs) r.next (n + 1) es code → From from at n (r.event ∷ es) code
       one_more es code F =
-          let G = subst (λ (a : Answer). From (from + 8 + 4 * a.event.count) a.next.at (n + 1) es code) is_found F in
-          let size : length (numbers (event_at f from ∷ es)) ≡ 2 + count f from + length (numbers es) = omega (arith, length-append (objects f from) (numbers es), length_at f (from + 8) (count f from)) in
+          let s : event_read f from at ≡ r = (tells N ks n f from body at (Ok (Some r)) p).1 in
+          let c : length (objects f from) ≡ count f from = length_at f (from + 8) (count f from) in
+          let size : length (numbers (r.event ∷ es)) ≡ 2 + length r.event.objs + length (numbers es) = omega (arith, length-append r.event.objs (numbers es)) in
           let before : n + 1 + length es ≡ n + suc (length es) = omega arith in
-          let behind : (i : ℕ) → i + 8 + 4 * count f from + 4 * length (numbers es) ≡ i + 4 * length (numbers (event_at f from ∷ es)) = λ i. omega (arith, size) in
-          subst (λ (e : plain.Event). From from at n (e ∷ es) code) (sym event-is) (record {
-            stand = stand-one f from h.there es G.stand;
-            code_is = G.code_is ∙ same_code before (behind from) (behind at);
-            whole = λ z. sym (behind at) ∙ G.whole z;
-          })
+          let behind : (i : ℕ) → i + 8 + 4 * length r.event.objs + 4 * length (numbers es) ≡ i + 4 * length (numbers (r.event ∷ es)) = λ i. omega (arith, size) in
+          let next : r.next + 4 * length (numbers es) ≡ at + 4 * length (numbers (r.event ∷ es)) = omega (arith, h.next, size) in
+          record {
+            stand = subst (λ (x : EventRead). words_from f from (length (numbers (x.event ∷ es))) ≡ numbers (x.event ∷ es)) s
+                (stand-one f from (omega (arith, h.there, ap (λ (x : EventRead). length x.event.objs) s, c)) es
+                (subst (λ (i : ℕ). words_from f (from + 8 + 4 * i) (length (numbers es)) ≡ numbers es) (sym (ap (λ (x : EventRead). length x.event.objs) s) ∙ c) F.stand));
+            code_is = F.code_is ∙ same_code before (behind from) next;
+            whole = λ z. sym next ∙ F.whole z;
+          }
 
   -- by what is found at a position
-  from-here : (from at n : ℕ) (d : Found) → (read_from N ks n f from body at).found ≡ d → (es : List plain.Event) (r : Followed) (trail : List ℕ)
-      → ((read_from N ks n f from body at).found ≡ found.Event → From (from + 8 + 4 * (read_from N ks n f from body at).event.count) (read_from N ks n f from body at).next.at (n + 1) es r.code)
-      → From from at n (by_found d (λ (u : Unit). event_in (read_from N ks n f from body at).event ∷ es) (λ (c : ℕ). []))
-      (by_found {A = Followed} d (λ (u : Unit). r) (λ (c : ℕ). record { trail = trail; accepted = n; code = c })).code
-  from-here from at n found.Event p es r trail more = one_more from at n p es r.code (more p)
-  from-here from at n found.End p es r trail more = stopped from at n found.End p (λ z. tells N ks n f from body at found.End p)
-  from-here from at n (found.Refused c) p es r trail more = stopped from at n (found.Refused c) p (λ z. absurd (tells N ks n f from body at (found.Refused c) p z))
+  from-here : (from at n : ℕ) (d : Answer) → read_from N ks n f from body at ≡ d → (es : EventRead → List plain.Event) (r : EventRead → Followed) (trail : List ℕ)
+      → ((e : EventRead) → read_from N ks n f from body at ≡ Ok (Some e) → From (from + 8 + 4 * length e.event.objs) e.next (n + 1) (es e) (r e).code)
+      → From from at n (by_found d (λ (e : EventRead). e.event ∷ es e) (λ (c : ℕ). [])) (by_found {A = Followed} d r (λ (c : ℕ). record { trail = trail; accepted = n; code = c })).code
+  from-here from at n (Ok (Some e)) p es r trail more = one_more from at n e p (es e) (r e).code (more e p)
+  from-here from at n (Ok None) p es r trail more = stopped from at n (Ok None) p (λ z. tells N ks n f from body at (Ok None) p)
+  from-here from at n (Err c) p es r trail more = stopped from at n (Err c) p (λ z. absurd (tells N ks n f from body at (Err c) p z))
 
   all_from : (k from at n : ℕ) → n + k ≡ 1000001 → n ≤ 1000000 → (trail : List ℕ) → From from at n (handed_out N ks f body k from at n) (followed N ks f body k trail from at n).code
   unfolding handed_out followed
   all_from zero from at n e h trail = absurd (omega arith)
   all_from (suc k) from at n e h trail =
-      let a : Answer = read_from N ks n f from body at in
-      from-here from at n a.found refl (handed_out N ks f body k (from + 8 + 4 * a.event.count) a.next.at (n + 1))
-      (followed N ks f body k (ask_bytes trail (plain.event (event_in a.event))) (from + 8 + 4 * a.event.count) a.next.at (n + 1)) trail
-      (λ p. all_from k (from + 8 + 4 * a.event.count) a.next.at (n + 1) (omega arith) (omega (arith, few from at n p)) (ask_bytes trail (plain.event (event_in a.event))))
+      from-here from at n (read_from N ks n f from body at) refl (λ (r : EventRead). handed_out N ks f body k (from + 8 + 4 * length r.event.objs) r.next (n + 1))
+      (λ (r : EventRead). followed N ks f body k (ask_bytes trail (plain.event r.event)) (from + 8 + 4 * length r.event.objs) r.next (n + 1)) trail
+      (λ r p. all_from k (from + 8 + 4 * length r.event.objs) r.next (n + 1) (omega arith) (omega (arith, few from at n r p)) (ask_bytes trail (plain.event r.event)))
 
   pub all_of : (from : ℕ) (trail : List ℕ) → AllOf N ks f body from (events_read N ks f body from) (final N ks f body trail from 0 0).code
   unfolding final events_read

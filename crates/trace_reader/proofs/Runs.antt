@@ -5,6 +5,7 @@ use mathlib.Core.List.{List, [], ◌∷◌, map}
 use native.Mathlib.Omega.{arith}
 use lib.ListN.{length, length-append}
 use borrow.Author.Tests.{eq-eqb}
+use Rattle.std.specs.Prelude.{Some, None, Ok, Err}
 use Rattle.words.specs.Lists.{All}
 use Rattle.net.specs.Net.{Net, Loaded}
 use Rattle.net.specs.Table.{net_of, load_code}
@@ -16,10 +17,7 @@ use Rattle.replay.specs.Record.{encode}
 use Rattle.replay.specs.Calls.{ask_bytes, start_record}
 use Rattle.replay.proofs.Records.{run-append, next-is, step-at, sound-at}
 use Rattle.replay.proofs.Theorems.{sound-reached}
-use Rattle.trace_reader.specs.declared.Answer.{Answer}
-use Rattle.trace_reader.specs.declared.Found.{Found}
-use Rattle.trace_reader.specs.declared.Found.TheVariants as found
-use Rattle.trace_reader.specs.Answers.{event_in}
+use Rattle.trace_reader.specs.Answers.{EventRead, Answer}
 use Rattle.trace_reader.specs.Trace.{read_from}
 use Rattle.trace_reader.proofs.HandedLaws.{handed}
 use Rattle.trace_reader.specs.Followed.{Followed, closed_after, by_found, followed, final, handed_out, events_read}
@@ -44,39 +42,36 @@ module _ (table : List ℕ) (good : load_code table ≡ 0) where
       abbrev here : Answer
       here = read_from N ks n f from body at
 
-      accepts : here.found ≡ found.Event → answer N p (event (event_in here.event)) ≡ 0
-      accepts e = rw (kinds, still_open, events) (handed N L ks n f from body at e).taken
+      accepts : (e : EventRead) → here ≡ Ok (Some e) → answer N p (event e.event) ≡ 0
+      accepts e q = rw (kinds, still_open, events) (handed N L ks n f from body at e q).taken
 
-      ran-by : (d : Found) → here.found ≡ d → (es : List Event) (r : List ℕ → Followed)
-          → (here.found ≡ found.Event → Ran (accept p (event (event_in here.event))) es (r (encode table (state_of N (accept p (event (event_in here.event)))))))
-          → Ran p (by_found d (λ (u : Unit). event_in here.event ∷ es) (λ (c : ℕ). []))
-          (by_found d (λ (u : Unit). r (ask_bytes (encode table (state_of N p)) (event (event_in here.event)))) (λ (c : ℕ). record { trail = encode table (state_of N p); accepted = n; code = c }))
-      ran-by found.Event q es r more =
-          let e : Event = event_in here.event in
-          let z = accepts q in
-          let m = more q in
-          let a = next-is N p (event e) z in
-          let b = step-at table good p S (event e) ∙ ap (λ (q : Plain). encode table (state_of N q)) a in
+      ran-by : (d : Answer) → here ≡ d → (es : EventRead → List Event) (r : List ℕ → EventRead → Followed)
+          → ((e : EventRead) → here ≡ Ok (Some e) → Ran (accept p (event e.event)) (es e) (r (encode table (state_of N (accept p (event e.event)))) e))
+          → Ran p (by_found d (λ (e : EventRead). e.event ∷ es e) (λ (c : ℕ). []))
+          (by_found d (λ (e : EventRead). r (ask_bytes (encode table (state_of N p)) (event e.event)) e) (λ (c : ℕ). record { trail = encode table (state_of N p); accepted = n; code = c }))
+      ran-by (Ok (Some e)) q es r more =
+          let z = accepts e q in
+          let m = more e q in
+          let a = next-is N p (event e.event) z in
+          let b = step-at table good p S (event e.event) ∙ ap (λ (q : Plain). encode table (state_of N q)) a in
           record {
-            trail = ap (λ (b : List ℕ). (r b).trail) b ∙ m.trail ∙ ap (λ (q : Plain). encode table (state_of N (run N q (map event es)))) (sym a);
-            accepted = ap (λ (b : List ℕ). (r b).accepted) b ∙ m.accepted ∙ omega (arith, length-append p.events (e ∷ []));
-            taken = (z, subst (λ (q : Plain). All (λ (c : ℕ). c ≡ 0) (answers N q (map event es))) (sym a) m.taken);
+            trail = ap (λ (b : List ℕ). (r b e).trail) b ∙ m.trail ∙ ap (λ (q : Plain). encode table (state_of N (run N q (map event (es e))))) (sym a);
+            accepted = ap (λ (b : List ℕ). (r b e).accepted) b ∙ m.accepted ∙ omega (arith, length-append p.events (e.event ∷ []));
+            taken = (z, subst (λ (q : Plain). All (λ (c : ℕ). c ≡ 0) (answers N q (map event (es e)))) (sym a) m.taken);
           }
-      ran-by found.End q es r more = record { trail = refl; accepted = omega arith; taken = tt }
-      ran-by (found.Refused c) q es r more = record { trail = refl; accepted = omega arith; taken = tt }
+      ran-by (Ok None) q es r more = record { trail = refl; accepted = omega arith; taken = tt }
+      ran-by (Err c) q es r more = record { trail = refl; accepted = omega arith; taken = tt }
 
     ran : (k from at n : ℕ) (p : Plain) → p.kinds ≡ ks → p.closed ≡ 0 → length p.events ≡ n → Sound N (state_of N p)
         → Ran p (handed_out N ks f body k from at n) (followed N ks f body k (encode table (state_of N p)) from at n)
     unfolding followed handed_out
     ran zero from at n p kinds still_open events S = record { trail = refl; accepted = omega arith; taken = tt }
     ran (suc k) from at n p kinds still_open events S =
-        let a : Answer = read_from N ks n f from body at in
-        let e : Event = event_in a.event in
-        ran-by from at n p kinds still_open events S a.found refl (handed_out N ks f body k (from + 8 + 4 * a.event.count) a.next.at (n + 1))
-        (λ (b : List ℕ). followed N ks f body k b (from + 8 + 4 * a.event.count) a.next.at (n + 1))
-        (λ q. ran k (from + 8 + 4 * a.event.count) a.next.at (n + 1) (accept p (event e)) kinds still_open
-        (omega (arith, length-append p.events (e ∷ [])))
-        (subst (λ (p : Plain). Sound N (state_of N p)) (next-is N p (event e) (accepts from at n p kinds still_open events S q)) (sound-at table good p S (event e))))
+        ran-by from at n p kinds still_open events S (read_from N ks n f from body at) refl (λ (r : EventRead). handed_out N ks f body k (from + 8 + 4 * length r.event.objs) r.next (n + 1))
+        (λ (b : List ℕ) (r : EventRead). followed N ks f body k b (from + 8 + 4 * length r.event.objs) r.next (n + 1))
+        (λ r q. ran k (from + 8 + 4 * length r.event.objs) r.next (n + 1) (accept p (event r.event)) kinds still_open
+        (omega (arith, length-append p.events (r.event ∷ [])))
+        (subst (λ (p : Plain). Sound N (state_of N p)) (next-is N p (event r.event) (accepts from at n p kinds still_open events S r q)) (sound-at table good p S (event r.event))))
 
 -- Of a table that loads and a register that is taken: the trail that is left is the record of the plain run over the events
 -- handed out, each of which is accepted; and of that run closed, where no event was refused.

@@ -1,5 +1,5 @@
 -- Reading needs no more than the 40 bytes at the position. Assumes nothing.
-use Prim.Native.Nat.{ℕ, zero, suc, ◌+◌, ◌*◌, ◌≤◌, ◌<◌}
+use Prim.Native.Nat.{ℕ, zero, suc, ◌+◌, ◌-◌, ◌*◌, ◌≤◌, ◌<◌}
 use mathlib.Core.Bool.{Bool}
 use mathlib.Core.Path.{◌≡◌, refl, ap, ap₂, sym, ◌∙◌}
 use mathlib.Core.List.{List, ◌∷◌, ◌++◌}
@@ -7,22 +7,27 @@ use native.Mathlib.Decide.{ℕ_discrete}
 use native.Mathlib.Nat.{add-zero}
 use native.Mathlib.Omega.{arith}
 use lib.Dec.{ltb}
-use lib.ListN.{length, take, drop}
-use borrow.Author.Tests.{leb-false, lt-ltb, eq-eqb, ne_eqb}
+use lib.ListN.{length, take, drop, length-drop}
+use lib.Seq.{take_all, take-take}
+use Rattle.std.specs.Prelude.{min}
+use Rattle.std.proofs.lemmas.List.{take_min, drop_min}
+use borrow.Author.Tests.{leb-false, lt-ltb, le-ltb, eq-eqb, ne_eqb}
+use Rattle.std.specs.Prelude.{Err}
 use Rattle.words.specs.Refusals.{first}
 use Rattle.words.specs.Words.{word, words_at}
 use Rattle.words.proofs.Lists.{is_eq}
 use Rattle.words.proofs.Refusals.{none-apply, first-stays}
 use Rattle.net.specs.Net.{Net, Loaded}
+use Rattle.net.specs.Held.{Held, net_in}
+use Rattle.net.proofs.HeldLaws.{held-loaded}
 use Rattle.replay.specs.Plain.{trail_tests, activity_tests, object_tests}
 use Rattle.trace_header.proofs.SameBytes.{same_word, same-short, same_more}
-use Rattle.trace_reader.specs.declared.Answer.{Answer}
-use Rattle.trace_reader.specs.declared.Found.TheVariants as found
-use Rattle.trace_reader.specs.Answers.{nothing, unless}
+use Rattle.trace_reader.specs.Answers.{Answer, unless}
 use Rattle.trace_reader.specs.Claims.{WindowEnough}
+use Rattle.trace_reader.specs.Parts.{body_read}
 use Rattle.trace_reader.specs.Trace.{event_found, read_tests, read_from}
 use Rattle.words.proofs.Words.{length_at}
-use Rattle.trace_reader.proofs.ReadLaws.{refused-is}
+use Rattle.trace_reader.proofs.ReadLaws.{unless_refused}
 
 -- objects inside the first k bytes
 same-objects : (k : ℕ) (w b : List ℕ) (from : ℕ) → take k w ≡ take k (drop from b) → (n i : ℕ) → i + 4 * n ≤ k → words_at w i n ≡ words_at b (from + i) n
@@ -99,17 +104,17 @@ module _ (N : Net) (L : Loaded N) (ks : List ℕ) (accepted : ℕ) (w b : List �
         ∙ ap₂ (λ (x y : List (Bool × ℕ)). first (x ++ y)) head-same rest-same
         ∙ sym (read-split N ks accepted b from body at)
 
-  elsewhere : unless (first (read_tests N ks accepted w 0 body at)) (event_found w 0 at) at ≡ unless (first (read_tests N ks accepted b from body at)) (event_found b from at) at
+  elsewhere : unless (first (read_tests N ks accepted w 0 body at)) (event_found w 0 at) ≡ unless (first (read_tests N ks accepted b from body at)) (event_found b from at)
   elsewhere = go (ℕ_discrete (first head_in) 0)
     where
-      go : Dec (first head_in ≡ 0) → unless (first (read_tests N ks accepted w 0 body at)) (event_found w 0 at) at ≡ unless (first (read_tests N ks accepted b from body at)) (event_found b from at) at
-      go (yes e) = ap₂ (λ (c : ℕ) (a : Answer). unless c a at) (tests_same (few e)) (found-same (few e))
+      go : Dec (first head_in ≡ 0) → unless (first (read_tests N ks accepted w 0 body at)) (event_found w 0 at) ≡ unless (first (read_tests N ks accepted b from body at)) (event_found b from at)
+      go (yes e) = ap₂ (λ (c : ℕ) (a : Answer). unless c a) (tests_same (few e)) (found-same (few e))
       go (no m) =
           let i : first (read_tests N ks accepted w 0 body at) ≡ first head_in = read-split N ks accepted w 0 body at ∙ first-stays head_in rest_in m in
           let o : first (read_tests N ks accepted b from body at) ≡ first head_in =
           read-split N ks accepted b from body at ∙ first-stays head_at rest_at (λ e. m (ap first head-same ∙ e)) ∙ sym (ap first head-same) in
-          sym (refused-is (first head_in) (first (read_tests N ks accepted w 0 body at)) (event_found w 0 at) at (sym i) m)
-          ∙ refused-is (first head_in) (first (read_tests N ks accepted b from body at)) (event_found b from at) at (sym o) m
+          sym (unless_refused (first head_in) (first (read_tests N ks accepted w 0 body at)) (event_found w 0 at) (sym i) m)
+          ∙ unless_refused (first head_in) (first (read_tests N ks accepted b from body at)) (event_found b from at) (sym o) m
 
   read_same : read_from N ks accepted w 0 body at ≡ read_from N ks accepted b from body at
   unfolding read_from
@@ -123,7 +128,31 @@ module _ (N : Net) (L : Loaded N) (ks : List ℕ) (accepted : ℕ) (w b : List �
 pub window-enough : (N : Net) → Loaded N → WindowEnough N
 window-enough = read_same
 
--- a position past the body's end
-pub past_end : (N : Net) (ks : List ℕ) (accepted : ℕ) (b : List ℕ) (from body at : ℕ) → body < at → nothing (found.Refused 73) at ≡ read_from N ks accepted b from body at
-unfolding read_from
-past_end N ks accepted b from body at h = rw (ne_eqb at body (λ e. omega arith), lt-ltb body at h)
+-- the window of a file from byte `start` on
+pub window_is : (f : List ℕ) (start a b : ℕ) → a ≡ min start (length f) → b ≡ min (length f - a) 40 → take b (take (length f - a) (drop a f)) ≡ take 40 (drop start f)
+window_is f start a b p q =
+    let d : drop a f ≡ drop start f = ap (λ (i : ℕ). drop i f) p ∙ drop_min start f in
+    let n : length (drop a f) ≡ length f - a = length-drop a f in
+    let m : b ≡ min 40 (length (drop a f)) = omega (arith, q, n) in
+    ap (take b) (take_all (length f - a) (drop a f) (omega (arith, n))) ∙ ap (λ (k : ℕ). take k (drop a f)) m ∙ take_min 40 (drop a f) ∙ ap (take 40) d
+
+-- reading in a file whose register claims so many bytes: they are not there, the position is past the body's end, or a window is read
+module _ (N : Net) (ks : List ℕ) (accepted : ℕ) (f : List ℕ) (claimed body at : ℕ) where
+  pub body_cut : length f < 16 + claimed → Err 71 ≡ body_read N ks accepted f claimed body at
+  unfolding body_read
+  body_cut h = rw (lt-ltb (length f) (16 + claimed) h) refl
+
+  module _ (there : 16 + claimed ≤ length f) where
+    pub body_past : body < at → Err 73 ≡ body_read N ks accepted f claimed body at
+    unfolding body_read read_from
+    body_past h = rw (le-ltb (length f) (16 + claimed) there, ne_eqb at body (λ e. omega arith), lt-ltb body at h) refl
+
+    pub body_window : Loaded N → (w : List ℕ) → w ≡ take 40 (drop (16 + claimed + at) f) → (a : Answer) → a ≡ read_from N ks accepted w 0 body at → a ≡ body_read N ks accepted f claimed body at
+    unfolding body_read
+    body_window L w e a r =
+        rw (le-ltb (length f) (16 + claimed) there)
+        (r ∙ window-enough N L ks accepted w f (16 + claimed + at) (ap (take 40) e ∙ take-take 40 40 (drop (16 + claimed + at) f) (omega arith)) body at)
+
+-- the net of words that are held
+pub loaded : (t : List ℕ) → Held t → Loaded (net_in t)
+loaded = held-loaded

@@ -1,26 +1,24 @@
 -- What is claimed of a read: an event handed out is one that a replay accepts, and 40 bytes at the position are enough.
-use Rattle.std.specs.Prelude.{ℕ, ◌+◌, ◌*◌, ◌≤◌, ◌≡◌, List, length, take, drop}
+use Rattle.std.specs.Prelude.{ℕ, ◌+◌, ◌*◌, ◌≤◌, ◌≡◌, List, length, take, drop, Some, Ok}
 use Rattle.words.specs.Words.{word}
 use Rattle.net.specs.Net.{Net}
 use Rattle.replay.specs.Plain.{refusal}
-use Rattle.trace_reader.specs.declared.Answer.{Answer}
-use Rattle.trace_reader.specs.declared.Found.TheVariants as found
-use Rattle.trace_reader.specs.Answers.{event_in}
+use Rattle.trace_reader.specs.Answers.{EventRead}
 use Rattle.trace_reader.specs.Trace.{read_from, read_at}
 
--- What holds of an answer with an event, read at byte `from` of `size` bytes: none of 21 to 27 applies to it on an open
+-- What holds of an event, read at byte `from` of `size` bytes: none of 21 to 27 applies to it on an open
 -- trail, the next position is behind it and inside the body, and its bytes are there.
-pub record Handed (N : Net) (ks : List ℕ) (accepted size from body at : ℕ) (r : Answer) : Type 0 where
-  pub taken : refusal N ks 0 accepted (event_in r.event) ≡ 0
-  pub next : r.next.at ≡ at + 8 + 4 * r.event.count
-  pub few : r.event.count ≤ 8
-  pub inside : r.next.at ≤ body
-  pub there : from + 8 + 4 * r.event.count ≤ size
+pub record Handed (N : Net) (ks : List ℕ) (accepted size from body at : ℕ) (r : EventRead) : Type 0 where
+  pub taken : refusal N ks 0 accepted r.event ≡ 0
+  pub next : r.next ≡ at + 8 + 4 * length r.event.objs
+  pub few : length r.event.objs ≤ 8
+  pub inside : r.next ≤ body
+  pub there : from + 8 + 4 * length r.event.objs ≤ size
 
 -- the event handed out
 abbrev pub HandedOut : Net → Type 0
-HandedOut N = (ks : List ℕ) (accepted : ℕ) (f : List ℕ) (at : ℕ) → (read_at N ks accepted f at).found ≡ found.Event
-    → Handed N ks accepted (length f) (16 + word f 4 + at) (word f 12) at (read_at N ks accepted f at)
+HandedOut N = (ks : List ℕ) (accepted : ℕ) (f : List ℕ) (at : ℕ) (r : EventRead) → read_at N ks accepted f at ≡ Ok (Some r)
+    → Handed N ks accepted (length f) (16 + word f 4 + at) (word f 12) at r
 
 -- the window: reading in w is reading in b at byte `from` where the first 40 bytes there, or all there are, are the same
 abbrev pub WindowEnough : Net → Type 0

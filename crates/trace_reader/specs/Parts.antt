@@ -4,8 +4,7 @@ use Rattle.words.specs.Refusals.{first}
 use Rattle.words.specs.Words.{word, words_at}
 use Rattle.net.specs.Net.{Net}
 use Rattle.replay.specs.Plain.{trail_tests, activity_tests, object_tests}
-use Rattle.trace_reader.specs.declared.Answer.{Answer}
-use Rattle.trace_reader.specs.Answers.{unless}
+use Rattle.trace_reader.specs.Answers.{Answer, unless}
 use Rattle.trace_reader.specs.Trace.{event_found, read_from}
 
 -- 23, 24, and the objects in body and file
@@ -34,9 +33,9 @@ pub record Ready (N : Net) (w : List ℕ) (at : ℕ) : Type 0 where
 
 -- the event at the front of the window w, or 25, 26 or 27
 unfoldable pub objects_found : Net → List ℕ → List ℕ → ℕ → Answer
-objects_found N ks w at = unless (first (object_tests N ks (word w 0) (words_at w 8 (word w 4)))) (event_found w 0 at) at
+objects_found N ks w at = unless (first (object_tests N ks (word w 0) (words_at w 8 (word w 4)))) (event_found w 0 at)
 
 -- reading in a file whose register claims `claimed` bytes: 71 where they are not all there
 unfoldable pub body_read : Net → List ℕ → ℕ → List ℕ → ℕ → ℕ → ℕ → Answer
 body_read N ks accepted f claimed body at =
-    unless (first ((ltb (length f) (16 + claimed), 71) ∷ [])) (read_from N ks accepted f (16 + claimed + at) body at) at
+    unless (first ((ltb (length f) (16 + claimed), 71) ∷ [])) (read_from N ks accepted f (16 + claimed + at) body at)

@@ -1,15 +1,12 @@
 -- The events of a trail file (document 01 "Trail file, program, sheet"), the body behind its register: reading at a position.
-use Rattle.std.specs.Prelude.{ℕ, ◌+◌, ◌*◌, Bool, List, [], ◌∷◌, ◌++◌, length, replicate, ltb, eqb}
-use Rattle.std.proofs.lemmas.List.Edits.{sets}
+use Rattle.std.specs.Prelude.{ℕ, ◌+◌, ◌*◌, Bool, List, [], ◌∷◌, ◌++◌, length, Some, None, Ok, ltb, eqb}
 use Rattle.words.specs.Lists.{pick}
 use Rattle.words.specs.Refusals.{first}
 use Rattle.words.specs.Words.{word, words_at}
 use Rattle.net.specs.Net.{Net}
 use Rattle.replay.specs.Plain.{Event, trail_tests, activity_tests, object_tests, event_of}
 use Rattle.trace_header.specs.Opening.{shape_tests}
-use Rattle.trace_reader.specs.declared.Answer.{Answer}
-use Rattle.trace_reader.specs.declared.Found.TheVariants as found
-use Rattle.trace_reader.specs.Answers.{nothing, unless}
+use Rattle.trace_reader.specs.Answers.{Answer, unless}
 
 -- the event whose first byte is byte i: activity, number of objects, objects
 abbrev pub event_at : List ℕ → ℕ → Event
@@ -20,21 +17,12 @@ event_at b i = event_of (word b i) (words_at b (i + 8) (word b (i + 4)))
 abbrev pub end_tests : List ℕ → ℕ → List (Bool × ℕ)
 end_tests b from = (ltb from (length b), 73) ∷ []
 
-abbrev pub end_found : List ℕ → ℕ → ℕ → Answer
-end_found b from at = unless (first (end_tests b from)) (nothing found.End at) at
+abbrev pub end_found : List ℕ → ℕ → Answer
+end_found b from = unless (first (end_tests b from)) (Ok None)
 
 -- the event at byte `from`, and the next position
 abbrev pub event_found : List ℕ → ℕ → ℕ → Answer
-event_found b from at =
-    record {
-      found = found.Event;
-      event = record {
-        activity = word b from;
-        count = word b (from + 4);
-        objects = sets (replicate 8 0) 0 (words_at b (from + 8) (word b (from + 4)));
-      };
-      next = record { at = at + 8 + 4 * word b (from + 4) };
-    }
+event_found b from at = Ok (Some (record { event = event_at b from; next = at + 8 + 4 * word b (from + 4) }))
 
 -- reading in an events body of `body` bytes; `ks` is the register, `accepted` the number of events accepted before
 module _ (N : Net) (ks : List ℕ) (accepted : ℕ) (b : List ℕ) (from body at : ℕ) where
@@ -58,8 +46,7 @@ module _ (N : Net) (ks : List ℕ) (accepted : ℕ) (b : List ℕ) (from body at
 
   -- what is found: the event, the end of the body, or a refusal
   unfoldable pub read_from : Answer
-  read_from =
-      pick (eqb at body) (end_found b from at) (unless (first read_tests) (event_found b from at) at)
+  read_from = pick (eqb at body) (end_found b from) (unless (first read_tests) (event_found b from at))
 
 -- reading at a position of a trail file's events body: the number, and what is found
 unfoldable pub read_at_code : Net → List ℕ → ℕ → List ℕ → ℕ → ℕ
@@ -67,4 +54,4 @@ read_at_code N ks accepted f at =
     pick (eqb (first (shape_tests N f)) 0) (read_code N ks accepted f (16 + word f 4 + at) (word f 12) at) (first (shape_tests N f))
 
 unfoldable pub read_at : Net → List ℕ → ℕ → List ℕ → ℕ → Answer
-read_at N ks accepted f at = unless (first (shape_tests N f)) (read_from N ks accepted f (16 + word f 4 + at) (word f 12) at) at
+read_at N ks accepted f at = unless (first (shape_tests N f)) (read_from N ks accepted f (16 + word f 4 + at) (word f 12) at)

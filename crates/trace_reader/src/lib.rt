@@ -1,24 +1,27 @@
 // The cursor: it reads the events of a trail file one by one.
-// Above `trace_header`, which says where the events stand, `replay` and `net`; `program_step` uses it.
+// Above `trace_header`, which says where the events stand, `replay_objects`, which refuses an event's objects, `net_lookup`,
+// `replay` and `net`; `program_step` uses it.
 
 #![tactic(auto)]
 
 ghost use Rattle.std.specs.Prelude.{◌≡◌, ◌+◌, ◌*◌, ◌≤◌, length, take, drop};
+ghost use Rattle.std.proofs.Common.{rules};
 ghost use Rattle.words.specs.Refusals.{first};
 ghost use Rattle.net.specs.Held.{net_in};
-ghost use Rattle.replay.specs.Ready.{KnownKinds};
 ghost use Rattle.replay.specs.Register.{kinds_in};
-ghost use Rattle.trace_reader.specs.Answers as answers;
+ghost use Rattle.trace_reader.specs.Answers.{trace_error_code, trace_answer_code, read_answer_code, numbered};
 ghost use Rattle.trace_reader.specs.Parts.{Ready, count_tests, front_tests, objects_found, body_read};
 ghost use Rattle.trace_reader.specs.Trace.{end_found, read_code, read_from, read_at_code, read_at};
+ghost use Rattle.trace_reader.specs.declared.TraceError.TheVariants.{Object};
 
-use crate::objects::read_objects;
+pub use crate::event::Event;
 use net_lookup::LoadedNet;
-use replay_objects::objects::refuse_objects;
-use trace_header::{Contents, read_contents};
+use replay_objects::objects::{ObjectError, Register, refuse_objects};
+use trace_header::read_contents;
+use words::answers::Refusal;
 use words::{wide, word_at};
 
-mod objects;
+mod event;
 
 // A position in the events body, in bytes from its start.
 #[derive(Drop)]
@@ -26,206 +29,199 @@ pub struct Cursor {
     pub at: usize,
 }
 
-// An activity and its objects: the first `count` of the eight; the others are 0.
+// An event, and the position behind it.
 #[derive(Drop)]
-pub struct Event {
-    pub activity: u32,
-    pub count: u32,
-    pub objects: [u32; 8],
-}
-
-// What is found at a position. `found_code` gives document 01's number.
-#[derive(Drop)]
-pub enum Found {
-    Event,
-    // The body ends here.
-    End,
-    Refused(u32),
-}
-
-// What is found, with the event beside it, since an enum holds no array. Where there is none, the event is all 0 and the
-// cursor stays.
-#[derive(Drop)]
-pub struct Answer {
-    pub found: Found,
-    pub event: Event,
+pub struct Read<'w> {
+    pub event: Event<'w>,
     pub next: Cursor,
 }
 
-// An answer with no event.
-fn nothing(found: Found, at: usize) -> Answer
-    ensures { result ≡ answers.nothing found at }
-{
-    Answer {
-        found,
-        event: Event {
-            activity: 0,
-            count: 0,
-            objects: [0; 8],
-        },
-        next: Cursor { at },
+// Why no event is read. `trace_error_code` gives document 01's number.
+#[derive(Clone, Copy)]
+pub enum TraceError {
+    // 71: the file's contents are broken.
+    Contents,
+    // 73: the events body is broken.
+    Events,
+    // 22: 1,000,000 events are already accepted.
+    Full,
+    // 23: unknown activity.
+    Activity,
+    // 24: the number of objects differs from the activity's arcs.
+    Number,
+    // 25 to 27, of its objects.
+    Object(ObjectError),
+}
+
+impl Refusal for TraceError {
+    ghost number_of = { trace_error_code };
+
+    ghost not_zero = { Prim.search rules };
+
+    fn number(self) -> u32 {
+        match self {
+            TraceError::Contents => 71,
+            TraceError::Events => 73,
+            TraceError::Full => 22,
+            TraceError::Activity => 23,
+            TraceError::Number => 24,
+            TraceError::Object(e) => e.number(),
+        }
+    }
+}
+
+impl From<ObjectError> for TraceError {
+    ghost from_gives = { λ o e. e ≡ Object o };
+
+    fn from(e: ObjectError) -> TraceError {
+        TraceError::Object(e)
     }
 }
 
 // At the body's end: 73 where the file has bytes behind it.
-fn end_found(window: &[u8], at: usize) -> Answer
-    ensures { result ≡ end_found window.now 0 at }
+fn end_found(window: &[u8]) -> Result<Option<Read<'_>>, TraceError>
+    ensures { numbered result ≡ end_found window.now 0 }
 {
-    if 0 < window.len() {
-        return nothing(Found::Refused(73), at);
+    if window.is_empty() {
+        return Ok(None);
     }
-    nothing(Found::End, at)
+    Err(TraceError::Events)
 }
 
-// 23, 24, 73 or 0: the activity, the number of objects, the objects' bytes.
-fn refuse_counts(window: &[u8], body: usize, at: usize, net: &LoadedNet) -> u32
+// 23, 24 or 73: the activity, the number of objects, the objects' bytes. Window, body and position are parameters here and in
+// `refuse_front`: a struct would be made for these two calls alone, and their clauses would name each of its fields.
+fn refuse_counts(window: &[u8], body: usize, at: usize, net: &LoadedNet) -> Result<(), TraceError>
     requires in_bounds { (8 ≤ length window.now) × (at + 8 ≤ body) }
-    ensures { result ≡ first (count_tests (net_in net.now.words.now) window.now body at) }
+    ensures { trace_answer_code result ≡ first (count_tests (net_in net.now.words.now) window.now body at) }
 {
     let act = wide(word_at(window, 0));
     if net.acts() <= act {
-        return 23;
+        return Err(TraceError::Activity);
     }
     let n = wide(word_at(window, 4));
     if n != net.arcs(act) {
-        return 24;
+        return Err(TraceError::Number);
     }
     if body - at < 8 + 4 * n {
-        return 73;
+        return Err(TraceError::Events);
     }
     if window.len() < 8 + 4 * n {
-        return 73;
+        return Err(TraceError::Events);
     }
-    0
+    Ok(())
 }
 
-// 73, 22, 23, 24 or 0: all tests before the objects.
-fn refuse_front(window: &[u8], body: usize, at: usize, accepted: u32, net: &LoadedNet) -> u32
-    ensures { result ≡ first (front_tests (net_in net.now.words.now) accepted window.now body at) }
+// 73, 22, 23 or 24: all tests before the objects.
+fn refuse_front(
+    window: &[u8],
+    body: usize,
+    at: usize,
+    accepted: u32,
+    net: &LoadedNet,
+) -> Result<(), TraceError>
+    ensures { trace_answer_code result ≡ first (front_tests (net_in net.now.words.now) accepted window.now body at) }
 {
     if body < at {
-        return 73;
+        return Err(TraceError::Events);
     }
     if body - at < 8 {
-        return 73;
+        return Err(TraceError::Events);
     }
     if window.len() < 8 {
-        return 73;
+        return Err(TraceError::Events);
     }
     if 1000000 <= accepted {
-        return 22;
+        return Err(TraceError::Full);
     }
     refuse_counts(window, body, at, net)
 }
 
 // The event at the front of the window, or 25, 26 or 27.
-fn read_event(window: &[u8], at: usize, register: &[u8], net: &LoadedNet) -> Answer
-    requires known_kinds { KnownKinds (net_in net.now.words.now) (kinds_in (net_in net.now.words.now) register.now) }
-    requires ready { Ready (net_in net.now.words.now) window.now at }
-    ensures { result ≡ objects_found (net_in net.now.words.now) (kinds_in (net_in net.now.words.now) register.now) window.now at }
+#[tactic(auto, using(crate::proofs::ReadLaws::objects_few, crate::proofs::ReadLaws::event_refused, crate::proofs::ReadLaws::event_taken))]
+fn read_event<'w>(
+    window: &'w [u8],
+    at: usize,
+    register: &Register,
+) -> Result<Option<Read<'w>>, TraceError>
+    requires ready { Ready (net_in register.now.net.words.now) window.now at }
+    ensures { numbered result ≡ objects_found (net_in register.now.net.words.now) (kinds_in (net_in register.now.net.words.now) register.now.bytes.now) window.now at }
 {
     let activity = word_at(window, 0);
-    let count = word_at(window, 4);
-    let n = wide(count);
-    let end = 8 + 4 * n;
-    match refuse_objects(&window[8..end], wide(activity), register, net) {
-        Ok(()) => Answer {
-            found: Found::Event,
-            event: Event {
-                activity,
-                count,
-                objects: read_objects(window, n),
-            },
-            next: Cursor { at: at + 8 + 4 * n },
-        },
-        Err(refused) => nothing(Found::Refused(refused.number()), at),
-    }
+    let end = 8 + 4 * wide(word_at(window, 4));
+    let objects = &window[8..end];
+    refuse_objects(objects, wide(activity), register)?;
+    Ok(Some(Read {
+        event: Event { activity, objects },
+        next: Cursor { at: at + end },
+    }))
 }
 
 // The 40 bytes of the file from byte `start` on, or all there are.
+#[tactic(auto, using(crate::proofs::WindowLaws::window_is))]
 fn window_at(file: &[u8], start: usize) -> &[u8]
     ensures { result.now ≡ take 40 (drop start file.now) }
 {
-    let len = file.len();
-    if len <= start {
-        return &file[len..];
-    }
-    if len - start < 40 {
-        return &file[start..];
-    }
-    let end = start + 40;
-    &file[start..end]
+    let rest = &file[start.min(file.len())..];
+    &rest[..rest.len().min(40)]
 }
 
 impl Cursor {
     // Reads through a window: the file's bytes from the position on, all of them or at least 40. `body` is the length of the
-    // events body, `accepted` the number of events accepted before.
-    #[tactic(auto, using(crate::proofs::HandedLaws::end_read, crate::proofs::HandedLaws::end_code))]
-    pub fn read_window(
+    // events body, `accepted` the number of events accepted before. None: the body ends here.
+    #[tactic(auto, using(crate::proofs::ReadLaws::window_end, crate::proofs::ReadLaws::window_refused, crate::proofs::ReadLaws::front_ready, crate::proofs::WindowLaws::loaded, crate::proofs::ReadLaws::window_event, crate::proofs::HandedLaws::with_code))]
+    pub fn read_window<'w>(
         self,
-        window: &[u8],
+        window: &'w [u8],
         body: usize,
         accepted: u32,
-        register: &[u8],
-        net: &LoadedNet,
-    ) -> Answer
-        requires known_kinds { KnownKinds (net_in net.now.words.now) (kinds_in (net_in net.now.words.now) register.now) }
-        ensures answer { result ≡ read_from (net_in net.now.words.now) (kinds_in (net_in net.now.words.now) register.now) accepted window.now 0 body self.at }
-        ensures code { answers.found_code result.found ≡ read_code (net_in net.now.words.now) (kinds_in (net_in net.now.words.now) register.now) accepted window.now 0 body self.at }
+        register: &Register,
+    ) -> Result<Option<Read<'w>>, TraceError>
+        ensures answer { numbered result ≡ read_from (net_in register.now.net.words.now) (kinds_in (net_in register.now.net.words.now) register.now.bytes.now) accepted window.now 0 body self.at }
+        ensures code { read_answer_code result ≡ read_code (net_in register.now.net.words.now) (kinds_in (net_in register.now.net.words.now) register.now.bytes.now) accepted window.now 0 body self.at }
     {
         let at = self.at;
         if at == body {
-            return end_found(window, at);
+            return end_found(window);
         }
-        let code = refuse_front(window, body, at, accepted, net);
-        if code != 0 {
-            return nothing(Found::Refused(code), at);
-        }
-        read_event(window, at, register, net)
+        refuse_front(window, body, at, accepted, &register.net)?;
+        read_event(window, at, register)
     }
 
     // Reads in the events body of a file whose register claims `claimed` bytes.
-    fn read_body(
+    #[tactic(auto, using(crate::proofs::WindowLaws::body_cut, crate::proofs::WindowLaws::body_past, crate::proofs::WindowLaws::body_window, crate::proofs::WindowLaws::loaded))]
+    fn read_body<'w>(
         self,
-        file: &[u8],
+        file: &'w [u8],
         claimed: usize,
         body: usize,
         accepted: u32,
-        register: &[u8],
-        net: &LoadedNet,
-    ) -> Answer
-        requires known_kinds { KnownKinds (net_in net.now.words.now) (kinds_in (net_in net.now.words.now) register.now) }
+        register: &Register,
+    ) -> Result<Option<Read<'w>>, TraceError>
         requires in_bounds { (16 ≤ length file.now) × (claimed + body ≤ 8589934592) }
-        ensures { result ≡ body_read (net_in net.now.words.now) (kinds_in (net_in net.now.words.now) register.now) accepted file.now claimed body self.at }
+        ensures { numbered result ≡ body_read (net_in register.now.net.words.now) (kinds_in (net_in register.now.net.words.now) register.now.bytes.now) accepted file.now claimed body self.at }
     {
         let at = self.at;
         if file.len() - 16 < claimed {
-            return nothing(Found::Refused(71), at);
+            return Err(TraceError::Contents);
         }
         if body < at {
-            return nothing(Found::Refused(73), at);
+            return Err(TraceError::Events);
         }
-        self.read_window(
-            window_at(file, 16 + claimed + at),
-            body,
-            accepted,
-            register,
-            net,
-        )
+        self.read_window(window_at(file, 16 + claimed + at), body, accepted, register)
     }
 
     // Reads in a file that is held whole.
-    pub fn read(self, file: &[u8], accepted: u32, register: &[u8], net: &LoadedNet) -> Answer
-        requires known_kinds { KnownKinds (net_in net.now.words.now) (kinds_in (net_in net.now.words.now) register.now) }
-        ensures answer { result ≡ read_at (net_in net.now.words.now) (kinds_in (net_in net.now.words.now) register.now) accepted file.now self.at }
-        ensures code { answers.found_code result.found ≡ read_at_code (net_in net.now.words.now) (kinds_in (net_in net.now.words.now) register.now) accepted file.now self.at }
+    #[tactic(auto, using(crate::proofs::ReadLaws::read_broken, crate::proofs::ReadLaws::broken_code, crate::proofs::ReadLaws::read_whole, crate::proofs::HandedLaws::with_at_code))]
+    pub fn read<'w>(
+        self,
+        file: &'w [u8],
+        accepted: u32,
+        register: &Register,
+    ) -> Result<Option<Read<'w>>, TraceError>
+        ensures answer { numbered result ≡ read_at (net_in register.now.net.words.now) (kinds_in (net_in register.now.net.words.now) register.now.bytes.now) accepted file.now self.at }
+        ensures code { read_answer_code result ≡ read_at_code (net_in register.now.net.words.now) (kinds_in (net_in register.now.net.words.now) register.now.bytes.now) accepted file.now self.at }
     {
-        match read_contents(file, net.words) {
-            Contents::Broken => nothing(Found::Refused(71), self.at),
-            Contents::Bodies {
-                register: claimed,
-                events,
-            } => self.read_body(file, claimed, events, accepted, register, net),
-        }
+        let bodies = read_contents(file, register.net.words).ok_or(TraceError::Contents)?;
+        self.read_body(file, bodies.register, bodies.events, accepted, register)
     }
 }
