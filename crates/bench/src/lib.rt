@@ -2,60 +2,70 @@
 
 #![tactic(auto)]
 
-ghost use Rattle.std.specs.Prelude.{◌≡◌, ◌+◌, ◌≤◌, length, get_or, drop};
+ghost use Rattle.std.specs.Prelude.{◌≡◌, ◌+◌, ◌≤◌, MatchOption, [], ◌∷◌, length};
 ghost use Rattle.words.specs.Words.{words_of};
 ghost use Rattle.replay.specs.Plain.{ask_event};
-ghost use Rattle.replay.specs.Calls.{ask_code, ask_bytes};
 ghost use Rattle.replay.specs.Ready.{Ready};
-ghost use Rattle.bench.specs.Bench.{row_at, events_in, accepted, carried, events_answer, events_leave};
+ghost use Rattle.bench.specs.Bench.{events_in, accepted, carried, events_answer, events_leave};
 
-use client_answers::event_code;
 use client_check::check::checked;
 use net::NET_WORDS;
 use net_lookup::LoadedNet;
 use replay_moves::TrailMut;
 use words::{get_word, wide};
 
-// Puts an event to the trail, and gives its number.
-fn put_event(rec: &mut [u8], net: &LoadedNet, activity: u32, objects: &[u8]) -> u32
-    requires { Ready net.now.words.now rec.old }
-    ensures { (result ≡ ask_code rec.old (ask_event activity (words_of objects.now))) × (rec.new ≡ ask_bytes rec.old (ask_event activity (words_of objects.now))) }
-{
-    let mut trail = TrailMut { rec, net: *net };
-    event_code(replay_event::event(&mut trail, activity, objects))
+// An event of a body: its activity and its objects.
+#[derive(Clone, Copy)]
+struct Event<'a> {
+    activity: u32,
+    objects: &'a [u8],
 }
 
-// Puts the event of the row at number `at` to the trail, and gives its number.
-fn put_row(rec: &mut [u8], net: &LoadedNet, events: &[u8], at: usize, count: usize) -> u32
-    requires ready { Ready net.now.words.now rec.old }
-    requires inside { (at + (2 + count) ≤ length (words_of events.now)) × (count ≡ get_or (drop at (words_of events.now)) 1 0) }
-    ensures { (result ≡ ask_code rec.old (row_at (drop at (words_of events.now)))) × (rec.new ≡ ask_bytes rec.old (row_at (drop at (words_of events.now)))) }
+// The event at the front of a body, and the body behind it; `None` at the body's end or where the row is cut off.
+fn split_event(body: &[u8]) -> Option<(Event<'_>, &[u8])>
+    ensures { MatchOption result (events_in body.now ≡ []) (λ r. (events_in body.now ≡ ask_event r.0.activity (words_of r.0.objects.now) ∷ events_in r.1.now) × (length r.1.now + 8 ≤ length body.now)) }
 {
-    let from = 4 * (at + 2);
-    let to = from + 4 * count;
-    put_event(rec, net, get_word(events, at), &events[from..to])
+    let numbers = body.len() / 4;
+    if numbers < 2 {
+        return None;
+    }
+    let count = wide(get_word(body, 1));
+    if numbers - 2 < count {
+        return None;
+    }
+    let end = 8 + 4 * count;
+    let event = Event {
+        activity: get_word(body, 0),
+        objects: &body[8..end],
+    };
+    Some((event, &body[end..]))
 }
 
 // Carries out the events up to the body's end, a row that is cut off or a refusal, and gives how many were accepted.
-fn run_events(trail: &mut [u8], net: &LoadedNet, events: &[u8]) -> u64
-    requires { Ready net.now.words.now trail.old }
-    ensures { (result ≡ accepted trail.old (events_in events.now)) × (trail.new ≡ carried trail.old (events_in events.now)) }
+fn run_events(trail: &mut TrailMut, events: &[u8]) -> u64
+    ensures count { result ≡ accepted trail.old.rec.now (events_in events.now) }
+    ensures trail_after { trail.new.rec.now ≡ carried trail.old.rec.now (events_in events.now) }
+    ensures same_bytes { trail.new.rec.ghost_name ≡ trail.old.rec.ghost_name }
 {
-    let size = events.len() / 4;
-    let mut at: usize = 0;
+    let mut rest = events;
     let mut n: u64 = 0;
-    while 2 <= size - at {
-        let count = wide(get_word(events, at + 1));
-        if size - at < 2 + count {
-            return n;
-        }
-        if put_row(trail, net, events, at, count) != 0 {
+    while let Some((event, behind)) = split_event(rest) {
+        if replay_event::event(trail, event.activity, event.objects).is_err() {
             return n;
         }
         n += 1;
-        at += 2 + count;
+        rest = behind;
     }
     n
+}
+
+// The same, on a record that is written: the `TrailMut` is made here, so that the caller learns what its bytes hold then.
+fn run_record(rec: &mut [u8], net: LoadedNet, events: &[u8]) -> u64
+    requires { Ready net.words.now rec.old }
+    ensures { (result ≡ accepted rec.old (events_in events.now)) × (rec.new ≡ carried rec.old (events_in events.now)) }
+{
+    let mut trail = TrailMut { rec, net };
+    run_events(&mut trail, events)
 }
 
 // Takes up the trail and carries out the events: 41 to 47 with the second number of 43 and 44, or how many were accepted.
@@ -69,5 +79,5 @@ pub fn conform_bench_events(trail: &mut [u8], events: &[u8]) -> u64
         return refused;
     }
     let net = LoadedNet { words: &t };
-    run_events(trail, &net, events)
+    run_record(trail, net, events)
 }

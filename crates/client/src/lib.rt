@@ -1,6 +1,7 @@
 // The functions of the marking client, for C: numbers and byte slices, the trail held in lent bytes, which are its record.
 // Above all other libraries but `client_c`, which exports them: each is one call of `client_start`, `client_trail` or
-// `client_write`. Any bytes are taken or refused, 41 to 47 before a call's own numbers and 61 last.
+// `client_write`, also where two are alike, since C has a name for each. Any bytes are taken or refused, 41 to 47 before a call's own
+// numbers and 61 last.
 
 #![tactic(auto)]
 
@@ -15,7 +16,9 @@ ghost use Rattle.client_calls.specs.Client.{load_answer, start_answer, start_lea
 ghost use Rattle.client_calls.specs.Writing.{write_answer, write_leaves};
 ghost use Rattle.client_counts.specs.Numbers.{trail_numbers, place_numbers, act_numbers, pair_numbers};
 
-use client_write::{Line, write_numbers, write_text};
+use client_counts::{act_numbers, pair_numbers, place_numbers, trail_numbers};
+use client_write::write;
+use report::trail::{act_line, jump_line, place_line, trail_line};
 
 // Loads a table, to see whether it is taken: 1 to 9.
 pub fn conform_load(table: &[u8]) -> u64
@@ -69,7 +72,7 @@ pub fn conform_trail_line(trail: &[u8], line: &mut [u8]) -> u64
     ensures answer { result ≡ write_answer trail.now [] (trail_line_at trail.now) line.old }
     ensures line_after { line.new ≡ write_leaves trail.now [] (trail_line_at trail.now) line.old }
 {
-    write_text(trail, Line::Trail, line)
+    write(trail, line, trail_line)
 }
 
 // The line of a place: 51, 61, or the line.
@@ -77,7 +80,7 @@ pub fn conform_place_line(trail: &[u8], place: u32, line: &mut [u8]) -> u64
     ensures answer { result ≡ write_answer trail.now (place_tests trail.now place) (place_line_at trail.now place) line.old }
     ensures line_after { line.new ≡ write_leaves trail.now (place_tests trail.now place) (place_line_at trail.now place) line.old }
 {
-    write_text(trail, Line::Place(place), line)
+    write(trail, line, |trail, out| place_line(trail, place, out))
 }
 
 // The line of an activity: 52, 61, or the line.
@@ -85,7 +88,7 @@ pub fn conform_act_line(trail: &[u8], activity: u32, line: &mut [u8]) -> u64
     ensures answer { result ≡ write_answer trail.now (act_tests trail.now activity) (act_line_at trail.now activity) line.old }
     ensures line_after { line.new ≡ write_leaves trail.now (act_tests trail.now activity) (act_line_at trail.now activity) line.old }
 {
-    write_text(trail, Line::Act(activity), line)
+    write(trail, line, |trail, out| act_line(trail, activity, out))
 }
 
 // The line of the jumps from one place to another: 51, 61, or the line, which is nothing where there are none.
@@ -93,7 +96,7 @@ pub fn conform_jump_line(trail: &[u8], from: u32, to: u32, line: &mut [u8]) -> u
     ensures answer { result ≡ write_answer trail.now (pair_tests trail.now from to) (jump_line_at trail.now from to) line.old }
     ensures line_after { line.new ≡ write_leaves trail.now (pair_tests trail.now from to) (jump_line_at trail.now from to) line.old }
 {
-    write_text(trail, Line::Jump(from, to), line)
+    write(trail, line, |trail, out| jump_line(trail, from, to, out))
 }
 
 // The numbers of the trail's line: objects, events, jumps, transfers.
@@ -101,7 +104,7 @@ pub fn conform_trail_counts(trail: &[u8], counts: &mut [u8]) -> u64
     ensures answer { result ≡ write_answer trail.now [] (trail_numbers trail.now) counts.old }
     ensures counts_after { counts.new ≡ write_leaves trail.now [] (trail_numbers trail.now) counts.old }
 {
-    write_numbers(trail, Line::Trail, counts)
+    write(trail, counts, trail_numbers)
 }
 
 // The numbers of a place's line: its number, TAKEN, IN, OUT.
@@ -109,7 +112,7 @@ pub fn conform_place_counts(trail: &[u8], place: u32, counts: &mut [u8]) -> u64
     ensures answer { result ≡ write_answer trail.now (place_tests trail.now place) (place_numbers trail.now place) counts.old }
     ensures counts_after { counts.new ≡ write_leaves trail.now (place_tests trail.now place) (place_numbers trail.now place) counts.old }
 {
-    write_numbers(trail, Line::Place(place), counts)
+    write(trail, counts, |trail, out| place_numbers(trail, place, out))
 }
 
 // The numbers of an activity's line: its number, FIRED, MOVED, JUMPS.
@@ -117,7 +120,11 @@ pub fn conform_act_counts(trail: &[u8], activity: u32, counts: &mut [u8]) -> u64
     ensures answer { result ≡ write_answer trail.now (act_tests trail.now activity) (act_numbers trail.now activity) counts.old }
     ensures counts_after { counts.new ≡ write_leaves trail.now (act_tests trail.now activity) (act_numbers trail.now activity) counts.old }
 {
-    write_numbers(trail, Line::Act(activity), counts)
+    write(
+        trail,
+        counts,
+        |trail, out| act_numbers(trail, activity, out),
+    )
 }
 
 // The numbers of a pair's line: the two places and the jump count, also where that is 0.
@@ -125,5 +132,9 @@ pub fn conform_jump_count(trail: &[u8], from: u32, to: u32, counts: &mut [u8]) -
     ensures answer { result ≡ write_answer trail.now (pair_tests trail.now from to) (pair_numbers trail.now from to) counts.old }
     ensures counts_after { counts.new ≡ write_leaves trail.now (pair_tests trail.now from to) (pair_numbers trail.now from to) counts.old }
 {
-    write_numbers(trail, Line::Jump(from, to), counts)
+    write(
+        trail,
+        counts,
+        |trail, out| pair_numbers(trail, from, to, out),
+    )
 }

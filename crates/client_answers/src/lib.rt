@@ -1,79 +1,29 @@
 // Answers as numbers: the refusal's number in the low 32 bits, 0 where a call was taken, and a second number above it.
-// Above the libraries whose answers they are.
+// Above `words`, whose trait gives each refusal its number.
 
 #![tactic(auto)]
 
-ghost use Rattle.std.specs.Prelude.{◌≡◌, ◌≤◌};
-ghost use Rattle.replay_start.specs.StartAnswers.{start_answer_code};
-ghost use Rattle.replay_event.specs.Answers.{event_answer_code};
-ghost use Rattle.replay_close.specs.Answers.{close_answer_code};
-ghost use Rattle.lines.specs.Answer as lines;
+ghost use Rattle.std.specs.Prelude.{◌≡◌, ◌<◌};
+ghost use Rattle.std.specs.Result.{result_unwrap_or};
+ghost use Rattle.words.specs.Refusals.{answer_code};
 ghost use Rattle.client_answers.specs.Answers.{packed};
 
-use lines::LineError;
-use replay_close::CloseError;
-use replay_event::EventError;
-use replay_start::StartError;
+use words::answers::Refusal;
 
 // The number of an answer in the low half, and a second number in the high half.
 pub fn pack(code: u32, high: u32) -> u64
     ensures { result ≡ packed code high }
 {
-    (code as u64) + 4294967296 * (high as u64)
+    u64::from(code) + 4294967296 * u64::from(high)
 }
 
-pub fn start_code(r: Result<(), StartError>) -> u32
-    ensures { result ≡ start_answer_code r }
-{
-    match r {
-        Ok(()) => 0,
-        Err(StartError::Number) => 11,
-        Err(StartError::Kind) => 12,
-        Err(StartError::NoRoom) => 61,
-    }
-}
-
-pub fn event_code(r: Result<(), EventError>) -> u32
-    ensures { result ≡ event_answer_code r }
-{
-    match r {
-        Ok(()) => 0,
-        Err(EventError::Closed) => 21,
-        Err(EventError::Full) => 22,
-        Err(EventError::Activity) => 23,
-        Err(EventError::Number) => 24,
-        Err(EventError::Object) => 25,
-        Err(EventError::Kind) => 26,
-        Err(EventError::TwoOfKind) => 27,
-    }
-}
-
-pub fn close_code(r: Result<(), CloseError>) -> u32
-    ensures { result ≡ close_answer_code r }
-{
-    match r {
-        Ok(_) => 0,
-        Err(CloseError::AlreadyClosed) => 31,
-    }
-}
-
-fn line_error_code(e: LineError) -> u32
-    ensures { result ≡ lines.line_error_code e }
-{
-    match e {
-        LineError::UnknownPlace => 51,
-        LineError::UnknownActivity => 52,
-        LineError::NoRoom => 61,
-    }
-}
-
-// The answer to writing a line or its numbers: how many bytes are written where it is taken.
-pub fn written(r: Result<usize, LineError>) -> u64
-    requires { lines.size_of r ≤ 113 }
-    ensures { result ≡ packed (lines.line_answer_code r) (lines.size_of r) }
+// The answer of a call that gives a size where it is taken: the refusal's number, or 0 and the size.
+pub fn answer<E: Refusal>(r: Result<usize, E>) -> u64
+    requires fits { result_unwrap_or r 0 < 4294967296 }
+    ensures { result ≡ packed (answer_code E.number_of r) (result_unwrap_or r 0) }
 {
     match r {
         Ok(n) => pack(0, n as u32),
-        Err(e) => pack(line_error_code(e), 0),
+        Err(e) => pack(e.number(), 0),
     }
 }

@@ -20,13 +20,13 @@ use Rattle.client_check.specs.Checked.{Checked}
 use Rattle.replay.specs.Limits.{max_record}
 
 -- a trail that is taken has no second number
-no_second : (b : List ℕ) → restore_code b ≡ 0 → restore_second b ≡ 0
+pub no_second : (b : List ℕ) → restore_code b ≡ 0 → restore_second b ≡ 0
 unfolding restore_second
 no_second b z = rw z
 
 -- the check's two numbers in one, and the words that hold the net of a trail that is taken
-pub checked-by : (b w : List ℕ) (r : ℕ) → r ≡ packed (restore_code b) (restore_second b) → (restore_code b ≡ 0 → Opened b w) → ((i : ℕ) → get_or b i 0 < 256) → Checked b w r
-checked-by b w r e o small = record { answer = e; ready = λ z. ready (omega arith) }
+pub checked_by : (b w : List ℕ) (r : ℕ) → r ≡ packed (restore_code b) (restore_second b) → (restore_code b ≡ 0 → Opened b w) → ((i : ℕ) → get_or b i 0 < 256) → Checked b w r
+checked_by b w r e o small = record { answer = e; ready = λ z. ready (omega arith) }
   where
     ready : restore_code b ≡ 0 → Ready w b
     ready z = let O = o z in record { held = O.held; net = O.net; intact = (restore-intact b small z).1; whole = (table-size (table_in b) O.loads).2 }

@@ -1,1 +1,1 @@
-pub mod NumberLaws
+mod NumberLaws

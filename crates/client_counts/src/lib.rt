@@ -1,77 +1,63 @@
 // The whole numbers of the lines, as four-byte numbers in lent bytes.
-// Above `replay_counts` and `report`, and beside `client_answers`.
+// Above `report`, which reads them, and beside `client_answers`.
 
 #![tactic(auto)]
 
-ghost use Rattle.std.specs.Prelude.{[], ◌∷◌};
+ghost use Rattle.std.specs.Prelude.{[], ◌≤◌, length};
 ghost use Rattle.words.specs.Words.{bytes_of};
 ghost use Rattle.replay_counts.specs.Reads.{place_tests, act_tests, pair_tests};
 ghost use Rattle.lines.specs.Answer.{Writes};
 ghost use Rattle.client_counts.specs.Numbers.{trail_numbers, place_numbers, act_numbers, pair_numbers};
 
 use lines::LineError;
-use replay_counts::{read_act, read_pair, read_place, read_trail};
 use replay_stored::Trail;
+use report::trail::{act_row, pair_row, place_row, trail_row};
 
-fn write_three(a: u32, b: u32, c: u32, out: &mut [u8]) -> Result<usize, LineError>
-    ensures { Writes [] (bytes_of (a ∷ b ∷ c ∷ [])) out.old result out.new }
+// The numbers of a row, whole, or not at all where the part is shorter. 28 numbers are as many bytes as `Writes` allows; a row has four
+// at most.
+fn write_row(row: &[u32], out: &mut [u8]) -> Result<usize, LineError>
+    requires { length row.now ≤ 28 }
+    ensures { Writes [] (bytes_of row.now) out.old result out.new }
 {
-    if out.len() < 12 {
+    let n = 4 * row.len();
+    if out.len() < n {
         return Err(LineError::NoRoom);
     }
-    words::put_word(out, 0, a);
-    words::put_word(out, 1, b);
-    words::put_word(out, 2, c);
-    Ok(12)
+    for (i, x) in row.iter().enumerate() {
+        words::put_word(out, i, *x);
+    }
+    Ok(n)
 }
 
-fn write_four(a: u32, b: u32, c: u32, d: u32, out: &mut [u8]) -> Result<usize, LineError>
-    ensures { Writes [] (bytes_of (a ∷ b ∷ c ∷ d ∷ [])) out.old result out.new }
-{
-    if out.len() < 16 {
-        return Err(LineError::NoRoom);
-    }
-    words::put_word(out, 0, a);
-    words::put_word(out, 1, b);
-    words::put_word(out, 2, c);
-    words::put_word(out, 3, d);
-    Ok(16)
-}
+// One function for each row, though they are alike: each row has its own tests and arguments.
 
 // Objects, events, jumps, transfers.
 pub fn trail_numbers(trail: &Trail, out: &mut [u8]) -> Result<usize, LineError>
     ensures { Writes [] (trail_numbers trail.now.rec.now) out.old result out.new }
 {
-    let k = read_trail(trail);
-    write_four(k.objects, k.events, k.jumps, k.transfers, out)
+    write_row(&trail_row(trail), out)
 }
 
 // The number of place q, TAKEN, IN, OUT.
 pub fn place_numbers(trail: &Trail, q: u32, out: &mut [u8]) -> Result<usize, LineError>
     ensures { Writes (place_tests trail.now.rec.now q) (place_numbers trail.now.rec.now q) out.old result out.new }
 {
-    match read_place(trail, q) {
-        None => Err(LineError::UnknownPlace),
-        Some(k) => write_four(q, k.consumed, k.jumps_in, k.jumps_out, out),
-    }
+    let row = place_row(trail, q)?;
+    write_row(&row, out)
 }
 
 // The number of activity a, FIRED, MOVED, JUMPS.
 pub fn act_numbers(trail: &Trail, a: u32, out: &mut [u8]) -> Result<usize, LineError>
     ensures { Writes (act_tests trail.now.rec.now a) (act_numbers trail.now.rec.now a) out.old result out.new }
 {
-    match read_act(trail, a) {
-        None => Err(LineError::UnknownActivity),
-        Some(k) => write_four(a, k.fired, k.moved, k.jumps, out),
-    }
+    let row = act_row(trail, a)?;
+    write_row(&row, out)
 }
 
 // The two places of a pair and its jump count.
 pub fn pair_numbers(trail: &Trail, from: u32, to: u32, out: &mut [u8]) -> Result<usize, LineError>
     ensures { Writes (pair_tests trail.now.rec.now from to) (pair_numbers trail.now.rec.now from to) out.old result out.new }
 {
-    match read_pair(trail, from, to) {
-        None => Err(LineError::UnknownPlace),
-        Some(n) => write_three(from, to, n, out),
-    }
+    let row = pair_row(trail, from, to)?;
+    write_row(&row, out)
 }

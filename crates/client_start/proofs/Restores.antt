@@ -1,6 +1,6 @@
 -- The answer of taking up a record, by what came of restoring it. Assumes nothing.
 use Prim.Native.Nat.{ℕ, ◌≤◌}
-use mathlib.Core.Path.{◌≡◌, ◌∙◌}
+use mathlib.Core.Path.{◌≡◌, refl}
 use mathlib.Core.List.{List}
 use native.Mathlib.Omega.{arith}
 use lib.ListN.{length}
@@ -14,14 +14,16 @@ use Rattle.client_calls.specs.Client.{restore_answer}
 
 -- the record r
 module _ (r : List ℕ) (room : ℕ) where
-  pub restore-le : take_code r room ≡ 0 → length r ≤ max_record
+  pub few : take_code r room ≡ 0 → length r ≤ max_record
   unfolding take_code
-  restore-le z = ltb-false max_record (length r) (none-apply (take_tests r room) (omega arith) z).1.0
+  few z = ltb-false max_record (length r) (none-apply (take_tests r room) (omega arith) z).1.0
 
-  pub restore-refused : (n c s : ℕ) → n ≡ packed c s → c ≡ take_code r room → s ≡ restore_second r → (c ≡ 0 → ⊥) → n ≡ restore_answer r room
+  pub answer_refused : (take_code r room ≡ 0 → ⊥) → restore_answer r room ≡ packed (take_code r room) (restore_second r)
   unfolding restore_answer
-  restore-refused n c s e f g p = rw (ne_eqb (take_code r room) 0 (λ z. p (f ∙ z))) (omega arith)
+  answer_refused n = rw (ne_eqb (take_code r room) 0 n) refl
 
-  pub restore-taken : (n : ℕ) → n ≡ packed 0 (length r) → take_code r room ≡ 0 → n ≡ restore_answer r room
+  pub answer_taken : take_code r room ≡ 0 → restore_answer r room ≡ packed 0 (length r)
   unfolding restore_answer
-  restore-taken n e z = rw z e
+  answer_taken z = rw z refl
+
+pub ruleset takes = (few, answer_taken, answer_refused)

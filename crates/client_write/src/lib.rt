@@ -1,92 +1,54 @@
 // A line of the report of a lent trail, or the line's whole numbers, into lent bytes: the check of the trail, then 51, 52 and 61.
-// Above `client_check`, `report`, `client_counts` and `client_answers`; `client` exports a function for each line.
+// Above `client_check` and `client_answers`; `client` exports a function for each line, and hands on what writes it.
 
 #![tactic(auto)]
 
-ghost use Rattle.std.specs.Prelude.{◌≡◌};
+ghost use Rattle.std.specs.Prelude.{◌≡◌, ◌≤◌, List, Bool, ℕ};
 ghost use Rattle.replay.specs.Ready.{Ready};
-ghost use Rattle.lines.specs.Answer.{Writes};
+ghost use Rattle.lines.specs.Answer.{size_of, Writes};
 ghost use Rattle.client_calls.specs.Writing.{write_answer, write_leaves};
-ghost use Rattle.client_write.specs.Asked.{line_tests, line_text, line_numbers};
+ghost use Rattle.client_write.specs.Puts.{PutsFew, PutsLine};
 
-use client_answers::written;
+use client_answers::answer;
 use client_check::check::checked;
 use lines::LineError;
 use net::{NET_WORDS, NetWords};
 use net_lookup::LoadedNet;
 use replay_stored::Trail;
 
-// Which line: that of the trail, of a place, of an activity, or of the jumps from one place to another.
-#[derive(Drop)]
-pub enum Line {
-    Trail,
-    Place(u32),
-    Act(u32),
-    Jump(u32, u32),
-}
-
-// The line itself, for a trail that is checked.
-fn put_text<'a>(
+// What `put` writes of a trail that is checked: the `Trail` is made here, once.
+fn put_line<'a, F: FnOnce(&Trail, &mut [u8]) -> Result<usize, LineError>>(
     rec: &'a [u8],
-    t: &'a NetWords,
-    which: Line,
+    words: &'a NetWords,
     out: &mut [u8],
+    put: F,
 ) -> Result<usize, LineError>
-    requires { Ready t.now rec.now }
-    ensures { Writes (line_tests rec.now which) (line_text rec.now which) out.old result out.new }
+    requires may_put { F.IsAlwaysCallable put }
+    requires few { PutsFew F.FnOnce put }
+    requires ready { Ready words.now rec.now }
+    ensures few { size_of result ≤ 113 }
+    ensures writes { (tests : List (Bool × ℕ)) (line : List ℕ) → PutsLine F.FnOnce put rec.now tests line out.old → Writes tests line out.old result out.new }
 {
-    let net = LoadedNet { words: t };
-    let trail = &Trail { rec, net };
-    match which {
-        Line::Trail => report::trail::trail_line(trail, out),
-        Line::Place(q) => report::trail::place_line(trail, q, out),
-        Line::Act(a) => report::trail::act_line(trail, a, out),
-        Line::Jump(x, y) => report::trail::jump_line(trail, x, y, out),
-    }
+    let net = LoadedNet { words };
+    let trail = Trail { rec, net };
+    put(&trail, out)
 }
 
-// Its whole numbers, for a trail that is checked.
-fn put_numbers<'a>(
-    rec: &'a [u8],
-    t: &'a NetWords,
-    which: Line,
+// Writes of any bytes that are lent as a trail what `put` writes of a trail: a line of its report, or a line's numbers.
+pub fn write<F: FnOnce(&Trail, &mut [u8]) -> Result<usize, LineError>>(
+    trail: &[u8],
     out: &mut [u8],
-) -> Result<usize, LineError>
-    requires { Ready t.now rec.now }
-    ensures { Writes (line_tests rec.now which) (line_numbers rec.now which) out.old result out.new }
-{
-    let net = LoadedNet { words: t };
-    let trail = &Trail { rec, net };
-    match which {
-        Line::Trail => client_counts::trail_numbers(trail, out),
-        Line::Place(q) => client_counts::place_numbers(trail, q, out),
-        Line::Act(a) => client_counts::act_numbers(trail, a, out),
-        Line::Jump(x, y) => client_counts::pair_numbers(trail, x, y, out),
-    }
-}
-
-// Writes a line of the report of any bytes that are lent as a trail.
-pub fn write_text(trail: &[u8], which: Line, out: &mut [u8]) -> u64
-    ensures answer { result ≡ write_answer trail.now (line_tests trail.now which) (line_text trail.now which) out.old }
-    ensures out_after { out.new ≡ write_leaves trail.now (line_tests trail.now which) (line_text trail.now which) out.old }
+    put: F,
+) -> u64
+    requires may_put { F.IsAlwaysCallable put }
+    requires few { PutsFew F.FnOnce put }
+    ensures answer { (tests : List (Bool × ℕ)) (line : List ℕ) → PutsLine F.FnOnce put trail.now tests line out.old → result ≡ write_answer trail.now tests line out.old }
+    ensures out_after { (tests : List (Bool × ℕ)) (line : List ℕ) → PutsLine F.FnOnce put trail.now tests line out.old → out.new ≡ write_leaves trail.now tests line out.old }
 {
     let mut t = [0u32; NET_WORDS];
     let refused = checked(trail, &mut t);
     if refused != 0 {
         return refused;
     }
-    written(put_text(trail, &t, which, out))
-}
-
-// Writes the whole numbers of a line.
-pub fn write_numbers(trail: &[u8], which: Line, out: &mut [u8]) -> u64
-    ensures answer { result ≡ write_answer trail.now (line_tests trail.now which) (line_numbers trail.now which) out.old }
-    ensures out_after { out.new ≡ write_leaves trail.now (line_tests trail.now which) (line_numbers trail.now which) out.old }
-{
-    let mut t = [0u32; NET_WORDS];
-    let refused = checked(trail, &mut t);
-    if refused != 0 {
-        return refused;
-    }
-    written(put_numbers(trail, &t, which, out))
+    answer(put_line(trail, &t, out, put))
 }

@@ -1,4 +1,5 @@
 pub mod TrailLines
+pub mod TrailRows
 pub mod Lengths
 pub mod Figures
 pub mod Report

@@ -10,6 +10,9 @@ ghost use Rattle.report_lines.specs.ReportLines.{trail_line, place_line, act_lin
 use lines::{LineError, write_line};
 use text::field::{Field, Word};
 
+// The three lines of four numbers are kept apart, though they are alike: each is one list of fields that shows which numbers it
+// prints and of which two its FIT is.
+
 // `trail`: register size, events, jumps, transfers, FIT.
 pub fn trail_line(
     objects: u32,

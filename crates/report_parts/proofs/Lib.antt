@@ -1,4 +1,4 @@
-mod LineLaws
+pub mod LineLaws
 pub mod PutLaws
 pub mod SizeLaws
 pub mod PartLaws

@@ -1,8 +1,9 @@
 -- Which line of the report has which number, and the line of a known place, activity or pair. Assumes nothing.
-use Prim.Native.Nat.{ℕ, zero, suc, ◌+◌, ◌-◌, ◌/◌, ◌%◌, ◌<◌}
+use Prim.Native.Nat.{ℕ, zero, suc, ◌+◌, ◌*◌, ◌-◌, ◌/◌, ◌%◌, ◌≤◌, ◌<◌}
 use mathlib.Core.Bool.{Bool}
-use mathlib.Core.Path.{◌≡◌, refl, ◌∙◌}
+use mathlib.Core.Path.{◌≡◌, refl, ap, ◌∙◌}
 use mathlib.Core.List.{List, [], ◌∷◌}
+use native.Mathlib.Nat.{mul-le-mul}
 use native.Mathlib.Omega.{arith}
 use lib.Dec.{ltb}
 use lib.ListN.{length}
@@ -10,7 +11,11 @@ use borrow.Author.Tests.{lt-ltb, le-ltb, lt-leb}
 use Rattle.words.specs.Lists.{All}
 use Rattle.words.specs.Refusals.{first}
 use Rattle.words.proofs.Refusals.{first_then}
+use Rattle.net.specs.Net.{Net}
+use Rattle.net.specs.Held.{net_in, Held}
+use Rattle.net.proofs.HeldLaws.{held-loaded}
 use Rattle.replay.specs.Calls.{net_at}
+use Rattle.replay.specs.Ready.{Ready}
 use Rattle.replay_counts.specs.Reads.{place_tests, act_tests, pair_tests}
 use Rattle.lines.specs.Answer.{line_code, Writes}
 use Rattle.std.specs.Prelude.{Result}
@@ -18,7 +23,37 @@ use Rattle.lines.specs.declared.LineError.{LineError}
 use Rattle.lines.proofs.LineLaws.{same_line}
 use Rattle.report.specs.TrailLines.{trail_line_at, place_line_at, act_line_at}
 use Rattle.report.specs.Report.{pair_line_at}
-use Rattle.report_parts.specs.Parts.{line_at}
+use Rattle.report.proofs.PairIndex.{some-place}
+use Rattle.report_parts.specs.Parts.{lines_on, lines_in, line_at}
+
+-- a loaded net has at most 64 places and 64 activities
+module _ (w : List ℕ) (H : Held w) (n : ℕ) where
+  pub places_few : n ≡ (net_in w).places → n ≤ 64
+  places_few e = omega (arith, (held-loaded w H).places-le, e)
+
+  pub acts_few : n ≡ (net_in w).acts → n ≤ 64
+  acts_few e = omega (arith, (held-loaded w H).acts-le, e)
+
+pub pairs_few : (n : ℕ) → n ≤ 64 → n * n ≤ 4096
+pairs_few n h = mul-le-mul h h
+
+-- those of the words are the record's
+module _ (w b : List ℕ) (R : Ready w b) (p : ℕ) (e : p ≡ (net_in w).places) where
+  pub places_in : p ≡ (net_at b).places
+  places_in = e ∙ ap (λ (N : Net). N.places) R.net
+
+  module _ (a : ℕ) (f : a ≡ (net_in w).acts) where
+    pub acts_in : a ≡ (net_at b).acts
+    acts_in = f ∙ ap (λ (N : Net). N.acts) R.net
+
+    -- a line that is no trail's, place's or activity's is a pair's
+    module _ (i : ℕ) (known : i < lines_in b) (not-trail : i ≡ 0 → ⊥) (not-place : p ≤ i - 1) (not-act : a ≤ i - 1 - p) where
+      pub pair-index : i - 1 - p - a < p * p
+      unfolding lines_on
+      pair-index = omega (arith, known, places_in, acts_in, ap (λ (n : ℕ). n * n) places_in, not-act, not-place, not-trail)
+
+      pub has_place : 0 < p
+      has_place = some-place p (i - 1 - p - a) pair-index
 
 module _ (b : List ℕ) where
   pub line-trail : (i : ℕ) → i ≡ 0 → trail_line_at b ≡ line_at b i

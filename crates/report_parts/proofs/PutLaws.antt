@@ -10,10 +10,17 @@ use lib.ListN.{length, take, drop, take-append-drop, length-append, length-drop}
 use borrow.Author.Tests.{lt-ltb, le-ltb, ltb-true, ltb-false}
 use Rattle.words.specs.Lists.{pick, over}
 use Rattle.words.proofs.Over.{over_at, part, part-back, from_start, behind, length-over_at}
-use Rattle.lines.specs.Answer.{line_answer_code, size_of, line_code, Writes}
+use Rattle.lines.specs.declared.LineError.TheVariants.{UnknownPlace, UnknownActivity, NoRoom}
+use Rattle.lines.specs.Answer.{line_error_code, line_answer_code, size_of, line_code, Writes}
 use Rattle.std.specs.Prelude.{Result}
 use Rattle.lines.specs.declared.LineError.{LineError}
 use Rattle.report_parts.specs.Parts.{lines_in, line_at, lines_from, fitting, fits, part_from, Puts}
+
+-- no refusal has the number 0
+pub error_code : (e : LineError) → line_error_code e ≡ 0 → ⊥
+error_code UnknownPlace z = omega arith
+error_code UnknownActivity z = omega arith
+error_code NoRoom z = omega arith
 
 -- a line that was written, and one that was not
 module _ {line lent : List ℕ} {r : Result ℕ LineError} {left : List ℕ} (w : Writes [] line lent r left) where

@@ -22,6 +22,7 @@ pub struct Part {
 
 // How many lines the report has: the trail's, one for each place and activity, and one for each pair of places, which is
 // empty where the pair has no jumps.
+#[tactic(auto, using(crate::proofs::LineLaws::places_few, crate::proofs::LineLaws::acts_few, crate::proofs::LineLaws::pairs_few))]
 pub fn line_count(net: &LoadedNet) -> u32
     ensures { result ≡ lines_on (net_in net.now.words.now) }
 {
@@ -31,6 +32,7 @@ pub fn line_count(net: &LoadedNet) -> u32
 }
 
 // Line i of the report.
+#[tactic(auto, using(crate::proofs::LineLaws::places_few, crate::proofs::LineLaws::acts_few, crate::proofs::LineLaws::has_place))]
 fn line(trail: &Trail, i: u32, out: &mut [u8]) -> Result<usize, LineError>
     requires known_line { i < lines_in trail.now.rec.now }
     ensures { Writes [] (line_at trail.now.rec.now i) out.old result out.new }
@@ -57,14 +59,15 @@ pub fn put_lines(trail: &Trail, from: u32, out: &mut [u8]) -> Part
     ensures { Puts trail.now.rec.now from out.old result out.new }
 {
     let n = line_count(&trail.net);
-    let mut i = from;
     let mut at = 0;
-    while i < n {
-        let Ok(size) = line(trail, i, &mut out[at..]) else {
-            return Part { next: i, size: at };
-        };
-        at += size;
-        i += 1;
+    for i in from..n {
+        match line(trail, i, &mut out[at..]) {
+            Ok(size) => at += size,
+            Err(_) => return Part { next: i, size: at },
+        }
     }
-    Part { next: i, size: at }
+    Part {
+        next: from.max(n),
+        size: at,
+    }
 }

@@ -13,13 +13,13 @@ returns-then-refused-ne0 c = let a = c.args in
 pub invariant_of-net : goal.invariant_of-net
 invariant_of-net c = record { held = (c.checked-refused.ensures.ready c.if-refused-ne0.false).held }
 
-pub run_events-requires : goal.run_events-requires
-run_events-requires c = c.checked-refused.ensures.ready c.if-refused-ne0.false
+pub run_record-requires : goal.run_record-requires
+run_record-requires c = c.checked-refused.ensures.ready c.if-refused-ne0.false
 
 pub returns : goal.returns
 unfolding events_answer events_leave
 returns c = let a = c.args in
     let k = c.checked-refused.ensures in
     let z = c.if-refused-ne0.false in
-    let e = c.run_events.ensures in
+    let e = c.run_record.ensures in
     record { answer = e.0 ∙ go-answer a.trail.now _ _ k z _; trail_after = e.1 ∙ go-bytes a.trail.now _ _ k z _ a.trail.now }

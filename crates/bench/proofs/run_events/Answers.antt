@@ -1,41 +1,25 @@
--- The loop takes each event from what is left of the body, and gives what is carried out. Assumes nothing.
-use mathlib.Core.Path.{◌≡◌, refl, sym, ◌∙◌}
-use native.Mathlib.Omega.{arith}
-use lib.ListN.{get_or, drop}
-use lib.Seq.{get_or-drop}
-use borrow.Author.Rules.{rules}
-use Rattle.words.specs.Words.{words_of}
-use Rattle.words.proofs.Words.{length-words}
-use Rattle.bench.proofs.Rows.{left-start, left_cut, left-refused, left-more}
+-- The loop puts the events that are left one by one, and gives what is carried out. Assumes nothing.
+use mathlib.Core.Path.{sym, ◌∙◌}
+use Rattle.bench.proofs.Rows.{code-refused, code-taken, left-end, left-refused, left-more}
 use Rattle.bench.proofs.run_events.Goals as goal
 
-pub loop-at-init : goal.loop-at-init
-loop-at-init c = (left-start c.args.net.now.words.now c.args.trail.now c.args.events.now c.requires, sym (length-words c.args.events.now), refl)
+pub returns-then-is_err : goal.returns-then-is_err
+returns-then-is_err c =
+    let l = c.loop-event in
+    let refused = left-refused _ _ _ _ _ l.invariant.left _ _ c.in-Some.ensures.0 _ c.event.ensures.trail_after (λ z. code-refused c.event.result (sym c.is_err.ensures.value ∙ c.if-is_err.true) (c.event.ensures.answer ∙ z)) in
+    record { count = refused.0; trail_after = refused.1; same_bytes = c.event.ensures.same_bytes ∙ l.invariant.same }
 
-pub returns-then-size-at : goal.returns-then-size-at
-returns-then-size-at c =
-    let count-is : c.wide-count.result ≡ get_or (drop c.loop-at.at (words_of c.args.events.now)) 1 0 = c.wide-count.ensures ∙ c.get_word.ensures ∙ sym (get_or-drop c.loop-at.at (words_of c.args.events.now) 1 0) in
-    let l = c.loop-at in left_cut _ _ _ _ _ _ l.invariant.0 (omega (arith, count-is, l.invariant.1))
-
-pub put_row-requires : goal.put_row-requires
-put_row-requires c =
-    let count-is : c.wide-count.result ≡ get_or (drop c.loop-at.at (words_of c.args.events.now)) 1 0 = c.wide-count.ensures ∙ c.get_word.ensures ∙ sym (get_or-drop c.loop-at.at (words_of c.args.events.now) 1 0) in
-    let l = c.loop-at in record { ready = l.invariant.0.ready; inside = (omega (arith, l.invariant.1), count-is) }
-
-pub returns-then-put_row-ne0 : goal.returns-then-put_row-ne0
-returns-then-put_row-ne0 c =
-    let count-is : c.wide-count.result ≡ get_or (drop c.loop-at.at (words_of c.args.events.now)) 1 0 = c.wide-count.ensures ∙ c.get_word.ensures ∙ sym (get_or-drop c.loop-at.at (words_of c.args.events.now) 1 0) in
-    let l = c.loop-at in
-    left-refused _ _ _ _ _ _ l.invariant.0 (omega (arith, count-is, l.invariant.1)) _ _ c.put_row.ensures c.if-put_row-ne0.true
-
-pub loop-at-preserved : goal.loop-at-preserved
-loop-at-preserved c =
-    let count-is : c.wide-count.result ≡ get_or (drop c.loop-at.at (words_of c.args.events.now)) 1 0 = c.wide-count.ensures ∙ c.get_word.ensures ∙ sym (get_or-drop c.loop-at.at (words_of c.args.events.now) 1 0) in
-    let l = c.loop-at in (
-      left-more _ _ _ _ _ _ l.invariant.0 (omega (arith, count-is, l.invariant.1)) _ _ c.put_row.ensures c.wide-count.result count-is c.if-put_row-ne0.false,
-      l.invariant.1,
-      search rules,
-    )
+pub loop-event-preserved : goal.loop-event-preserved
+loop-event-preserved c =
+    let l = c.loop-event in
+    let taken = code-taken c.event.result (sym c.is_err.ensures.value ∙ c.if-is_err.false) in
+    record {
+      left = left-more _ _ _ _ _ l.invariant.left _ _ c.in-Some.ensures.0 _ c.event.ensures.trail_after (sym c.event.ensures.answer ∙ taken) c.in-Some.ensures.1;
+      same = c.event.ensures.same_bytes ∙ l.invariant.same;
+    }
 
 pub returns : goal.returns
-returns c = let l = c.loop-at in left_cut _ _ _ _ _ _ l.invariant.0 (omega (arith, l.invariant.1, c.loop-at-test.false))
+returns c =
+    let l = c.loop-event in
+    let ended = left-end _ _ _ _ _ l.invariant.left c.in_default.ensures in
+    record { count = ended.0; trail_after = ended.1; same_bytes = l.invariant.same }

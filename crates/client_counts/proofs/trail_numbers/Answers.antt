@@ -1,8 +1,10 @@
--- The counts that were read, written. Assumes nothing.
-use Rattle.lines.proofs.LineLaws.{same_line}
-use Rattle.client_counts.proofs.NumberLaws.{trail-read}
+-- The numbers that were read are written. Assumes nothing.
+use mathlib.Core.Path.{refl}
+use Rattle.words.specs.Words.{bytes_of}
+use Rattle.client_counts.specs.Numbers.{trail_numbers}
+use Rattle.report.proofs.TrailLaws.{row_written}
 use Rattle.client_counts.proofs.trail_numbers.Goals as goal
 
 pub returns : goal.returns
-returns c = let a = c.args in
-    same_line (trail-read a.trail.now.rec.now c.read_trail-k.result c.read_trail-k.ensures) c.write_four.ensures
+unfolding trail_numbers
+returns c = row_written bytes_of tt (refl, c.trail_row.ensures) c.write_row.ensures

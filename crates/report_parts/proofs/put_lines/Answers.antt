@@ -1,52 +1,37 @@
 -- The steps of the loop, and that its end is the whole part. Assumes nothing.
 use Prim.Native.Nat.{ℕ}
-use mathlib.Core.Path.{◌≡◌, refl, ap, sym, ◌∙◌}
+use mathlib.Core.Path.{◌≡◌, ap, sym, subst, ◌∙◌}
 use native.Mathlib.Omega.{arith}
 use Rattle.lines.specs.Answer.{line_answer_code, size_of}
-use Rattle.std.specs.Prelude.{Result, Ok, Err}
-use Rattle.lines.specs.declared.LineError.{LineError}
-use Rattle.lines.specs.declared.LineError.TheVariants.{UnknownPlace, UnknownActivity, NoRoom}
-use Rattle.report_parts.specs.Parts.{lines_on}
-use Rattle.report_parts.proofs.PutLaws.{putting, put-line, put-no-line, put-end}
+use Rattle.report_parts.specs.Parts.{lines_on, Puts}
+use Rattle.report_parts.proofs.PutLaws.{error_code, putting, put-line, put-no-line, put-end}
 use Rattle.report_parts.proofs.put_lines.Goals as goal
 
--- an answer that is not a line's size
-not_written : (r : Result ℕ LineError) → ((n : ℕ) → r ≡ Ok n → ⊥) → line_answer_code r ≡ 0 → ⊥
-not_written (Ok n) other e = other n refl
-not_written (Err UnknownPlace) other e = omega arith
-not_written (Err UnknownActivity) other e = omega arith
-not_written (Err NoRoom) other e = omega arith
-
 pub loop-i-init : goal.loop-i-init
-loop-i-init c = (c.line_count-n.ensures ∙ ap lines_on c.args.trail.now.ready.net, putting c.args.trail.now.rec.now c.args.from c.args.out.now)
+loop-i-init c = record {
+  lines = c.line_count-n.ensures ∙ ap lines_on c.args.trail.now.ready.net;
+  upto = omega arith;
+  put = putting c.args.trail.now.rec.now c.args.from c.args.out.now;
+}
 
-pub line-requires : goal.line-requires
-line-requires c = record { known_line = omega arith }
-
-pub returns-in_default : goal.returns-in_default
-returns-in_default c =
-    let a = c.args in
+pub returns-in-Err : goal.returns-in-Err
+returns-in-Err c =
     let l = c.loop-i in
-    let r = c.line in
-    put-no-line a.trail.now.rec.now a.from a.out.now l.i l.at l.out l.invariant.1 r.result _ r.ensures (not_written r.result c.in_default.not-Ok)
+    put-no-line c.args.trail.now.rec.now c.args.from c.args.out.now l.i l.at l.out l.invariant.put _ _ c.line.ensures
+    (λ z. error_code c.in-Err.field-0 (sym (ap line_answer_code c.in-Err.is) ∙ z))
 
 pub loop-i-preserved : goal.loop-i-preserved
 loop-i-preserved c =
-    let a = c.args in
     let l = c.loop-i in
-    let told = c.in-Ok.is in (
-      l.invariant.0,
-      put-line a.trail.now.rec.now a.from a.out.now l.i l.at l.out l.invariant.1 _ _ c.line.ensures (omega arith) (ap line_answer_code told) _ (sym (ap size_of told)),
-    )
-
--- the next line starts inside the lent part
-pub overflow_add-at : goal.overflow_add-at
-overflow_add-at c =
-    let l = c.loop-i in
-    omega (arith, (put-line c.args.trail.now.rec.now c.args.from c.args.out.now l.i l.at l.out l.invariant.1 _ _ c.line.ensures (omega arith) (ap line_answer_code c.in-Ok.is) _ (sym (ap size_of c.in-Ok.is))).inside)
+    record {
+      lines = l.invariant.lines;
+      upto = omega arith;
+      put = put-line c.args.trail.now.rec.now c.args.from c.args.out.now l.i l.at l.out l.invariant.put _ _ c.line.ensures (omega arith) (ap line_answer_code c.in-Ok.is) _ (sym (ap size_of c.in-Ok.is));
+    }
 
 pub returns : goal.returns
 returns c =
-    let a = c.args in
     let l = c.loop-i in
-    put-end a.trail.now.rec.now a.from a.out.now l.i l.at l.out l.invariant.1 (omega arith)
+    let last : l.i ≡ c.max.result = omega arith in
+    subst (λ (i : ℕ). Puts c.args.trail.now.rec.now c.args.from c.args.out.now (record { next = i; size = l.at }) l.out) last
+    (put-end c.args.trail.now.rec.now c.args.from c.args.out.now l.i l.at l.out l.invariant.put (omega arith))

@@ -1,28 +1,16 @@
--- An unknown number is refused, and else the line of the counts that were read is written.
--- Assumes nothing.
-use mathlib.Core.Path.{refl, ap, sym, ◌∙◌}
-use Rattle.std.specs.Prelude.{Err}
+-- An unknown number is refused, and else the line of the numbers that were read is written. Assumes nothing.
+use Prim.Native.Nat.{ℕ}
+use mathlib.Core.List.{List}
 use native.Mathlib.Omega.{arith}
-use Rattle.replay_counts.specs.Reads.{act_tests, act_code, act_read_code}
+use lib.ListN.{get_or}
+use Rattle.report_lines.specs.ReportLines.{act_line}
 use Rattle.report.specs.TrailLines.{act_line_at}
-use Rattle.lines.specs.declared.LineError.TheVariants.{UnknownActivity}
-use Rattle.lines.proofs.LineLaws.{same_line, refused, passed}
-use Rattle.report.proofs.TrailLaws.{act-counts}
+use Rattle.report.proofs.TrailLaws.{line_refused, row_written}
 use Rattle.report.proofs.trail.act_line.Goals as goal
 
-pub returns-in-None : goal.returns-in-None
-unfolding act_code
-returns-in-None c =
-    let a = c.args in
-    let e = sym (ap act_read_code c.in-None.is) ∙ c.read_act.ensures.code in
-    refused (act_line_at a.trail.now.rec.now a.a) a.out.now (act_tests a.trail.now.rec.now a.a) (Err UnknownActivity) e (omega arith) refl
+pub returns-in_err-act : goal.returns-in_err-act
+returns-in_err-act c = line_refused _ _ _ _ _ c.from_residual.ensures.1 c.in_err-act.ensures
 
-pub returns-in-Some : goal.returns-in-Some
-unfolding act_code
-returns-in-Some c =
-    let a = c.args in
-    let r = c.read_act in
-    let told = c.in-Some.is in
-    let e = sym r.ensures.code ∙ ap act_read_code told in
-    passed (act_line_at a.trail.now.rec.now a.a) a.out.now (act_tests a.trail.now.rec.now a.a) _ _ e (omega arith, tt)
-    (same_line (act-counts a.trail.now.rec.now a.a c.in-Some.k (sym r.ensures.answer ∙ told)) c.act_line.ensures)
+pub returns : goal.returns
+unfolding act_line_at
+returns c = row_written (λ (xs : List ℕ). act_line (get_or xs 0 0) (get_or xs 1 0) (get_or xs 2 0) (get_or xs 3 0)) (omega arith, tt) c.in_ok-act.ensures c.act_line.ensures

@@ -1,28 +1,16 @@
--- An unknown number is refused, and else the line of the counts that were read is written.
--- Assumes nothing.
-use mathlib.Core.Path.{refl, ap, sym, ◌∙◌}
-use Rattle.std.specs.Prelude.{Err}
+-- An unknown number is refused, and else the line of the numbers that were read is written. Assumes nothing.
+use Prim.Native.Nat.{ℕ}
+use mathlib.Core.List.{List}
 use native.Mathlib.Omega.{arith}
-use Rattle.replay_counts.specs.Reads.{pair_tests, pair_code, pair_read_code}
+use lib.ListN.{get_or}
+use Rattle.report_lines.specs.ReportLines.{jump_line}
 use Rattle.report.specs.TrailLines.{jump_line_at}
-use Rattle.lines.specs.declared.LineError.TheVariants.{UnknownPlace}
-use Rattle.lines.proofs.LineLaws.{same_line, refused, passed}
-use Rattle.report.proofs.TrailLaws.{pair-count}
+use Rattle.report.proofs.TrailLaws.{line_refused, row_written}
 use Rattle.report.proofs.trail.jump_line.Goals as goal
 
-pub returns-in-None : goal.returns-in-None
-unfolding pair_code
-returns-in-None c =
-    let a = c.args in
-    let e = sym (ap pair_read_code c.in-None.is) ∙ c.read_pair.ensures.code in
-    refused (jump_line_at a.trail.now.rec.now a.from a.to) a.out.now (pair_tests a.trail.now.rec.now a.from a.to) (Err UnknownPlace) e (omega arith) refl
+pub returns-in_err-from : goal.returns-in_err-from
+returns-in_err-from c = line_refused _ _ _ _ _ c.from_residual.ensures.1 c.in_err-from.ensures
 
-pub returns-in-Some : goal.returns-in-Some
-unfolding pair_code
-returns-in-Some c =
-    let a = c.args in
-    let r = c.read_pair in
-    let told = c.in-Some.is in
-    let e = sym r.ensures.code ∙ ap pair_read_code told in
-    passed (jump_line_at a.trail.now.rec.now a.from a.to) a.out.now (pair_tests a.trail.now.rec.now a.from a.to) _ _ e (omega arith, (omega arith, tt))
-    (same_line (pair-count a.trail.now.rec.now a.from a.to c.in-Some.n (sym r.ensures.answer ∙ told)) c.jump_line.ensures)
+pub returns : goal.returns
+unfolding jump_line_at
+returns c = row_written (λ (xs : List ℕ). jump_line (get_or xs 0 0) (get_or xs 1 0) (get_or xs 2 0)) (omega arith, (omega arith, tt)) c.in_ok-from.ensures c.jump_line.ensures
