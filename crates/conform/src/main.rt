@@ -13,10 +13,10 @@ ghost use Rattle.program_output.specs.Ending.{Printable};
 ghost use Rattle.program_text.specs.FromFile.{FromFile};
 
 use net::{MAX_TABLE, NET_WORDS, NetWords};
-use net_lookup::LoadedNet;
+use net_lookup::tabled::TabledNet;
 use program_input::{has_arguments, read_file};
 use program_open::read_trail;
-use program_output::{Ending, print};
+use program_output::{Refused, print};
 use replay_layout::MAX_RECORD;
 use std::io::{Read, Write};
 
@@ -34,23 +34,23 @@ fn net_buffer() -> NetWords
     [0; NET_WORDS]
 }
 
-// What is to be printed, by the table file's bytes and what is read from standard input. The trail is left in the lent bytes.
-fn decide<R: Read>(input: &mut R, table: &[u8], t: &mut NetWords, rec: &mut [u8]) -> Ending
+// In how many of the lent bytes the trail stands that is to be reported, or the first refusal: by the table file's bytes and what
+// is read from standard input. Room for the longest record is a clause, here and in `program_open`: an array of just so many bytes
+// would ask more of who calls.
+fn decide<R: Read>(
+    input: &mut R,
+    table: &[u8],
+    t: &mut NetWords,
+    rec: &mut [u8],
+) -> Result<usize, Refused>
     requires fresh { t.old ≡ replicate net_words 0 }
     requires room { max_record ≤ length rec.old }
     ensures text { FromFile table.now [] 0 result rec.new }
     ensures printable { Printable t.new rec.new result }
 {
-    match net_loader::load_fresh(table, t) {
-        Ok(()) => {
-            let net = LoadedNet { words: t };
-            read_trail(input, table, &net, rec)
-        }
-        Err(refused) => Ending::Refused {
-            code: refused.number(),
-            events: 0,
-        },
-    }
+    net_loader::load_fresh(table, t)?;
+    let tabled = TabledNet::loaded(t, table);
+    read_trail(input, &tabled, rec)
 }
 
 // Reads the table file, of which one byte more than a table may have is enough to refuse it, and prints what is to be printed.
@@ -60,7 +60,7 @@ fn run(rt: HostRuntime) {
     let mut rec = record_buffer();
     let n = read_file(&rt, b"route.tab", &mut table);
     let ending = decide(&mut rt.stdin(), &table[..n], &mut t, &mut rec);
-    if !print(&mut rt.stdout(), ending, &rec, &t) {
+    if print(&mut rt.stdout(), ending, &rec, &t).is_err() {
         let _ = rt
             .stderr()
             .write_all(b"conform: standard output cannot be written\n");

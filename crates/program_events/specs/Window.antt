@@ -1,8 +1,7 @@
 -- The part of a file that a window holds, and that steps in it change nothing of what comes of all the file's events.
 use Rattle.std.specs.Prelude.{ℕ, ◌+◌, ◌-◌, ◌≤◌, ◌<◌, false, ◌≡◌, List, length, take, drop}
 use Rattle.net.specs.Net.{Net}
-use Rattle.program_step.specs.declared.Spot.{Spot}
-use Rattle.program_step.specs.declared.Outcome.{Outcome}
+use Rattle.program_step.specs.OneStep.{Spot, Outcome}
 use Rattle.trace_reader.specs.Followed.{Followed, final}
 use Rattle.program_events.specs.Ends.{goes_on}
 

@@ -123,20 +123,6 @@ impl<'a> InputWindow<'a> {
     }
 }
 
-// Moves the bytes from `from` on to the front and fills up from the input. Gives how many bytes there are then: fewer than fit
-// where the input has ended.
-pub fn refill<R: Read>(input: &mut R, buf: &mut [u8], from: usize) -> usize
-    requires { from ≤ length buf.old }
-    ensures size { (length buf.old - from ≤ result) × (result ≤ length buf.old) }
-    ensures kept { take (length buf.old - from) buf.new ≡ drop from buf.old }
-    ensures bytes { Consumes (R.remaining input.old) (R.remaining input.new) (drop (length buf.old - from) (take result buf.new)) }
-{
-    let len = buf.len();
-    let mut window = InputWindow { buf, len };
-    window.refill(input, from);
-    window.len
-}
-
 // Whether the program was started with arguments, beside its own name.
 pub fn has_arguments(env: &impl Env) -> bool {
     let mut front = [0u8; 1];

@@ -1,185 +1,163 @@
 // The trail file on standard input, which `conform` hands in, opened and followed: its contents, its register, then its events on
 // the trail that is started. Reading and deciding are apart: functions that read (`read_..`) hand the bytes to functions that
-// decide, and these give back what is to be printed. Proved of what is given back: it has the text for the table's bytes and a
-// trail file of which the bytes handed in are the front (`program_text: FromFile`). That standard input is that file no contract
-// can say, and is tested.
+// decide, and these give back what is to be printed: how many bytes the trail has, or the first refusal. Proved of what is given
+// back: it has the text for the table's bytes and a trail file of which the bytes handed in are the front (`program_text`:
+// `FromFile`). That standard input is that file no contract can say, and is tested.
 // Above `trace_header`, `replay_start` and `program_events`; `conform` uses it once a table is loaded.
 
 #![tactic(auto)]
 
-ghost use Rattle.std.specs.Prelude.{◌≡◌, [], ◌%◌, ◌≤◌, length, take};
-ghost use Rattle.net.specs.Held.{net_in, Tabled};
+ghost use Rattle.std.specs.Prelude.{◌≡◌, [], ◌%◌, ◌≤◌, ◌<◌, length};
 ghost use Rattle.net.specs.Table.{net_of};
 ghost use Rattle.replay.specs.Plain.{register_code};
 ghost use Rattle.replay.specs.Limits.{max_record};
 ghost use Rattle.replay.specs.Register.{row_bytes, max_register, kinds_in};
-ghost use Rattle.replay_start.specs.Startable.{Startable};
-ghost use Rattle.trace_header.specs.Opening.{open_code};
-ghost use Rattle.program_output.specs.declared.Ending.TheVariants.{Refused};
+ghost use Rattle.program_input.specs.Window.{window_bytes, window_room};
 ghost use Rattle.program_output.specs.Ending.{Printable};
 ghost use Rattle.program_text.specs.FromFile.{FromFile, BehindContents, BehindRegister};
 
-use net_lookup::LoadedNet;
+use net_lookup::tabled::TabledNet;
 use program_events::follow;
-use program_input::{read_full, read_some, skip};
-use program_output::Ending;
+use program_input::{InputWindow, read_full, read_some, skip};
+use program_output::Refused;
 use replay_layout::fresh::record_bytes;
+use replay_objects::objects::Register;
 use replay_rows::most_bytes;
+use replay_start::StartBodies;
 use std::io::Read;
-use trace_header::{Contents, opening_refusal, read_contents};
+use trace_header::{Bodies, OpenError, opening_refusal, read_contents};
 
-// A register that is not refused: the trail is started, which nothing can refuse here, and its events are followed. The first n
-// bytes of the buffer are those that were read first behind the register.
+// A trail file whose contents claim bodies of so many bytes, the register's in whole rows, and the table's net.
+#[derive(Drop)]
+struct Claimed<'a> {
+    tabled: TabledNet<'a>,
+    bodies: Bodies,
+    ghost whole_rows: { bodies.register % row_bytes (net_of tabled.table.now) ≡ 0 },
+}
+
+// A register that is not refused: the trail is started, which nothing can refuse here, and its events are followed. In the window
+// are the bytes that were read first behind the register.
 fn begin<R: Read>(
     input: &mut R,
-    table: &[u8],
-    net: &LoadedNet,
-    register: &[u8],
+    start: &StartBodies,
     body: usize,
     rec: &mut [u8],
-    buf: &mut [u8],
-    n: usize,
-) -> Ending
-    requires startable { Startable net.now.words.now table.now register.now }
-    requires registered { register_code (net_of table.now) (kinds_in (net_of table.now) register.now) ≡ 0 }
+    window: &mut InputWindow,
+) -> Result<usize, Refused>
+    requires registered { register_code (net_of start.now.tabled.table.now) (kinds_in (net_of start.now.tabled.table.now) start.now.register.now) ≡ 0 }
     requires room { max_record ≤ length rec.old }
-    requires in_bounds { (40 ≤ length buf.old) × (n ≤ length buf.old) }
-    ensures text { BehindRegister table.now register.now body (take n buf.old) (length buf.old) result rec.new }
-    ensures printable { Printable net.now.words.now rec.new result }
+    requires in_bounds { 40 ≤ window_room window.old }
+    ensures text { BehindRegister start.now.tabled.table.now start.now.register.now body (window_bytes window.old) (window_room window.old) result rec.new }
+    ensures printable { Printable start.now.tabled.net.words.now rec.new result }
 {
-    let _ = replay_start::start(net, table, register, rec);
-    let size = record_bytes(net, table.len(), register);
-    follow(input, &mut rec[..size], net, register, body, buf, n)
+    let _ = replay_start::start(start, rec);
+    let net = start.tabled.net;
+    let bytes = start.register;
+    let size = record_bytes(&net, start.tabled.table.len(), bytes);
+    let register = Register { bytes, net };
+    follow(input, &mut rec[..size], &register, body, window)
 }
 
 // Reads the first part of the events.
 fn read_events<R: Read>(
     input: &mut R,
-    table: &[u8],
-    net: &LoadedNet,
-    register: &[u8],
+    start: &StartBodies,
     body: usize,
     rec: &mut [u8],
-) -> Ending
-    requires startable { Startable net.now.words.now table.now register.now }
-    requires registered { register_code (net_of table.now) (kinds_in (net_of table.now) register.now) ≡ 0 }
+) -> Result<usize, Refused>
+    requires registered { register_code (net_of start.now.tabled.table.now) (kinds_in (net_of start.now.tabled.table.now) start.now.register.now) ≡ 0 }
     requires room { max_record ≤ length rec.old }
-    ensures text { BehindRegister table.now register.now body [] 0 result rec.new }
-    ensures printable { Printable net.now.words.now rec.new result }
+    ensures text { BehindRegister start.now.tabled.table.now start.now.register.now body [] 0 result rec.new }
+    ensures printable { Printable start.now.tabled.net.words.now rec.new result }
 {
     let mut buf = [0u8; 65536];
-    let n = read_full(input, &mut buf);
-    begin(input, table, net, register, body, rec, &mut buf, n)
+    let mut window = InputWindow::read(input, &mut buf);
+    begin(input, start, body, rec, &mut window)
 }
 
-// A register that claims so many bytes, of which those given are there.
-fn open_register<R: Read>(
+// The bytes of a register that are there, at most as many as are claimed.
+fn open_register<'a, R: Read>(
     input: &mut R,
-    table: &[u8],
-    net: &LoadedNet,
-    claimed: usize,
-    body: usize,
-    register: &[u8],
+    claimed: &'a Claimed,
+    register: &'a [u8],
     rec: &mut [u8],
-) -> Ending
-    requires tabled { Tabled net.now.words.now table.now }
-    requires whole_rows { claimed % row_bytes (net_of table.now) ≡ 0 }
-    requires at_most_claimed { length register.now ≤ claimed }
+) -> Result<usize, Refused>
+    requires at_most_claimed { length register.now ≤ claimed.now.bodies.register }
     requires room { max_record ≤ length rec.old }
-    ensures text { BehindContents table.now claimed body register.now claimed result rec.new }
-    ensures printable { Printable net.now.words.now rec.new result }
+    ensures text { BehindContents claimed.now.tabled.table.now claimed.now.bodies register.now claimed.now.bodies.register result rec.new }
+    ensures printable { Printable claimed.now.tabled.net.words.now rec.new result }
 {
-    let code = opening_refusal(claimed, register.len(), register, net);
-    if code != 0 {
-        return Ending::Refused { code, events: 0 };
-    }
-    read_events(input, table, net, register, body, rec)
+    let net = &claimed.tabled.net;
+    opening_refusal(claimed.bodies.register, register.len(), register, net)?;
+    let start = StartBodies {
+        tabled: claimed.tabled,
+        register,
+    };
+    read_events(input, &start, claimed.bodies.events, rec)
 }
 
 // Reads a register that can be held whole.
 fn read_register<R: Read>(
     input: &mut R,
-    table: &[u8],
-    net: &LoadedNet,
-    claimed: usize,
-    body: usize,
+    claimed: &Claimed,
     rec: &mut [u8],
-) -> Ending
-    requires tabled { Tabled net.now.words.now table.now }
-    requires whole_rows { (claimed % row_bytes (net_of table.now) ≡ 0) × (claimed ≤ max_register (net_of table.now)) }
+) -> Result<usize, Refused>
+    requires short { claimed.now.bodies.register ≤ max_register (net_of claimed.now.tabled.table.now) }
     requires room { max_record ≤ length rec.old }
-    ensures text { BehindContents table.now claimed body [] 0 result rec.new }
-    ensures printable { Printable net.now.words.now rec.new result }
+    ensures text { BehindContents claimed.now.tabled.table.now claimed.now.bodies [] 0 result rec.new }
+    ensures printable { Printable claimed.now.tabled.net.words.now rec.new result }
 {
     let mut register = [0u8; 4096];
-    let there = read_some(input, &mut register, claimed);
-    open_register(input, table, net, claimed, body, &register[..there], rec)
+    let there = read_some(input, &mut register, claimed.bodies.register);
+    open_register(input, claimed, &register[..there], rec)
 }
 
-// A register longer than the longest that is taken is counted and not held.
-fn pass_register(net: &LoadedNet, claimed: usize, there: usize) -> Ending
-    ensures { result ≡ Refused (open_code (net_in net.now.words.now) claimed there []) 0 }
-{
-    Ending::Refused {
-        code: opening_refusal(claimed, there, b"", net),
-        events: 0,
-    }
-}
-
-// A trail file whose contents claim bodies of so many bytes.
-fn open_bodies<R: Read>(
-    input: &mut R,
-    table: &[u8],
-    net: &LoadedNet,
-    claimed: usize,
-    body: usize,
-    rec: &mut [u8],
-) -> Ending
-    requires tabled { Tabled net.now.words.now table.now }
-    requires whole_rows { claimed % row_bytes (net_of table.now) ≡ 0 }
+// A trail file whose contents are not broken.
+fn open_bodies<R: Read>(input: &mut R, claimed: &Claimed, rec: &mut [u8]) -> Result<usize, Refused>
     requires room { max_record ≤ length rec.old }
-    ensures text { BehindContents table.now claimed body [] 0 result rec.new }
-    ensures printable { Printable net.now.words.now rec.new result }
+    ensures text { BehindContents claimed.now.tabled.table.now claimed.now.bodies [] 0 result rec.new }
+    ensures printable { Printable claimed.now.tabled.net.words.now rec.new result }
 {
-    if most_bytes(net.words) < claimed {
-        return pass_register(net, claimed, skip(input, claimed));
+    let most = most_bytes(claimed.tabled.net.words);
+    if most < claimed.bodies.register {
+        // A register longer than the longest that is taken is refused here: of its bytes those there are counted, not held.
+        let there = skip(input, claimed.bodies.register);
+        opening_refusal(claimed.bodies.register, there, b"", &claimed.tabled.net)?;
     }
-    read_register(input, table, net, claimed, body, rec)
+    read_register(input, claimed, rec)
 }
 
 // A trail file, by its first bytes, for a table that is loaded.
 fn open_trail<R: Read>(
     input: &mut R,
-    table: &[u8],
-    net: &LoadedNet,
+    tabled: &TabledNet,
     head: &[u8],
     rec: &mut [u8],
-) -> Ending
-    requires tabled { Tabled net.now.words.now table.now }
+) -> Result<usize, Refused>
     requires head_short { length head.now ≤ 16 }
     requires room { max_record ≤ length rec.old }
-    ensures text { FromFile table.now head.now 16 result rec.new }
-    ensures printable { Printable net.now.words.now rec.new result }
+    ensures text { FromFile tabled.now.table.now head.now 16 result rec.new }
+    ensures printable { Printable tabled.now.net.words.now rec.new result }
 {
-    match read_contents(head, net.words) {
-        Contents::Broken => Ending::Refused {
-            code: 71,
-            events: 0,
-        },
-        Contents::Bodies { register, events } => open_bodies(
-            input, table, net, register, events, rec,
-        ),
-    }
+    let bodies = read_contents(head, tabled.net.words).ok_or(OpenError::Contents)?;
+    let claimed = Claimed {
+        tabled: *tabled,
+        bodies,
+    };
+    open_bodies(input, &claimed, rec)
 }
 
 // Reads the first bytes of the trail file.
-pub fn read_trail<R: Read>(input: &mut R, table: &[u8], net: &LoadedNet, rec: &mut [u8]) -> Ending
-    requires tabled { Tabled net.now.words.now table.now }
+pub fn read_trail<R: Read>(
+    input: &mut R,
+    tabled: &TabledNet,
+    rec: &mut [u8],
+) -> Result<usize, Refused>
     requires room { max_record ≤ length rec.old }
-    ensures text { FromFile table.now [] 0 result rec.new }
-    ensures printable { Printable net.now.words.now rec.new result }
+    ensures text { FromFile tabled.now.table.now [] 0 result rec.new }
+    ensures printable { Printable tabled.now.net.words.now rec.new result }
 {
     let mut head = [0u8; 16];
     let n = read_full(input, &mut head);
-    open_trail(input, table, net, &head[..n], rec)
+    open_trail(input, tabled, &head[..n], rec)
 }

@@ -1,1 +1,1 @@
-pub mod Following
+pub mod StepLaws

@@ -1,19 +1,28 @@
 -- One step of carrying out a trail file's events, at a spot.
-use Rattle.std.specs.Prelude.{ℕ, ◌+◌, ◌*◌, true, false, List}
+use Rattle.std.specs.Prelude.{ℕ, ◌+◌, ◌*◌, Bool, true, false, List, length}
 use Rattle.net.specs.Net.{Net}
 use Rattle.replay.specs.Plain.{event}
 use Rattle.replay.specs.Calls.{ask_bytes}
-use Rattle.trace_reader.specs.Answers.{event_in}
+use Rattle.trace_reader.specs.Answers.{EventRead, Answer}
 use Rattle.trace_reader.specs.Trace.{read_from}
 use Rattle.trace_reader.specs.Followed.{by_found}
-use Rattle.trace_reader.specs.declared.Answer.{Answer}
-use Rattle.program_step.specs.declared.Spot.{Spot}
-use Rattle.program_step.specs.declared.Outcome.{Outcome}
+
+-- where the reading stands: byte `from` of a window is byte `at` of the events body, and `accepted` events are accepted
+pub record Spot : Type 0 where
+  pub from : ℕ
+  pub at : ℕ
+  pub accepted : ℕ
+
+-- how it goes on: once it is over, `code` is the number of the refusal, or 0 at the end of the body
+pub record Outcome : Type 0 where
+  pub spot : Spot
+  pub over : Bool
+  pub code : ℕ
 
 -- the outcome behind an event that is accepted, and where reading stops
-abbrev pub behind : Spot → Answer → Outcome
-behind s a = record {
-  spot = record { from = s.from + 8 + 4 * a.event.count; at = a.next.at; accepted = s.accepted + 1 };
+abbrev pub behind : Spot → EventRead → Outcome
+behind s r = record {
+  spot = record { from = s.from + 8 + 4 * length r.event.objs; at = r.next; accepted = s.accepted + 1 };
   over = false;
   code = 0;
 }
@@ -23,10 +32,10 @@ stops s c = record { spot = s; over = true; code = c }
 
 -- what an answer of the reader leaves of the trail, and the outcome
 abbrev pub trail_after : List ℕ → Answer → List ℕ
-trail_after trail a = by_found a.found (λ (u : Unit). ask_bytes trail (event (event_in a.event))) (λ (c : ℕ). trail)
+trail_after trail a = by_found a (λ (r : EventRead). ask_bytes trail (event r.event)) (λ (c : ℕ). trail)
 
 abbrev pub outcome_after : Spot → Answer → Outcome
-outcome_after s a = by_found a.found (λ (u : Unit). behind s a) (stops s)
+outcome_after s a = by_found a (behind s) (stops s)
 
 -- the net, the kind of each object, the bytes b with which the file ends, and the length of the events body
 module _ (N : Net) (ks b : List ℕ) (body : ℕ) where

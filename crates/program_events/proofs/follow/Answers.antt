@@ -1,20 +1,23 @@
 -- The trail is closed where no event was refused, and it is one to which calls can be put, also after the close. Assumes nothing.
-use mathlib.Core.Path.{sym, subst}
-use native.Mathlib.Omega.{arith}
-use lib.ListN.{length, take}
 use Rattle.net.specs.Held.{net_in}
 use Rattle.replay.specs.Plain.{close}
-use Rattle.replay.specs.Ready.{Ready}
 use Rattle.replay.specs.Register.{kinds_in}
 use Rattle.replay.proofs.Calls.{ready-asked}
-use Rattle.program_events.proofs.File.{end_refused, end-closed}
+use Rattle.program_input.specs.Window.{window_bytes, window_room}
+use Rattle.program_events.proofs.File.{end-refused, end-closed}
 use Rattle.program_events.proofs.follow.Goals as goal
 
-pub returns-then-code-ne0 : goal.returns-then-code-ne0
-returns-then-code-ne0 g c =
-    let r = c.all_events-s in record { ends = end_refused (net_in c.args.net.now.words.now) (kinds_in (net_in c.args.net.now.words.now) c.args.register.now) c.args.body c.args.rec.now (take c.args.n c.args.buf.now) (length c.args.buf.now) r.new.rec r.result r.ensures.all c.if-code-ne0.true; ready = r.ensures.follows.ready }
+pub returns-in_err-put_events-clause-ends : goal.returns-in_err-put_events-clause-ends
+returns-in_err-put_events-clause-ends g c =
+    let a = c.args in
+    let p = c.put_events in
+    end-refused (net_in a.register.now.net.words.now) (kinds_in (net_in a.register.now.net.words.now) a.register.now.bytes.now) a.body a.rec.now (window_bytes a.window.now) (window_room a.window.now) p.new.rec p.result p.ensures.all _ c.in_err-put_events.was _ c.from_residual.ensures.1
 
-pub returns : goal.returns
-returns g c =
-    let r = c.all_events-s in
-    let d = c.close_trail in record { ends = end-closed (net_in c.args.net.now.words.now) (kinds_in (net_in c.args.net.now.words.now) c.args.register.now) c.args.body c.args.rec.now (take c.args.n c.args.buf.now) (length c.args.buf.now) r.new.rec r.result r.ensures.all c.if-code-ne0.false d.new.rec d.ensures _ (omega arith); ready = subst (Ready c.args.net.now.words.now) (sym d.ensures) (ready-asked c.args.net.now.words.now r.new.rec r.ensures.follows.ready close) }
+pub returns-clause-ends : goal.returns-clause-ends
+returns-clause-ends g c =
+    let a = c.args in
+    let p = c.put_events in
+    end-closed (net_in a.register.now.net.words.now) (kinds_in (net_in a.register.now.net.words.now) a.register.now.bytes.now) a.body a.rec.now (window_bytes a.window.now) (window_room a.window.now) p.new.rec p.result p.ensures.all c.in_ok-put_events.was c.close_trail.new.rec c.close_trail.ensures
+
+pub returns-clause-ready : goal.returns-clause-ready
+returns-clause-ready g c = rw c.close_trail.ensures (ready-asked _ _ c.put_events.ensures.ready close)

@@ -3,22 +3,19 @@
 use Prim.Native.Nat.{◌-◌, ◌≤◌}
 use mathlib.Core.Path.{◌≡◌}
 use lib.ListN.{length}
-use Rattle.net.specs.Held.{net_in}
-use Rattle.replay.specs.Register.{kinds_in}
-use Rattle.program_step.specs.Follows.{Follows}
+use Rattle.program_step.specs.Outcomes.{SameTrail, followed_kinds, followed_net, spot_at}
 use Rattle.program_events.specs.Window.{Window, Kept}
 use Rattle.program_events.proofs.Kept.{going}
 use Rattle.program_events.proofs.steps.Given as goal
 
-abbrev pub invariant-loop-spot : goal.invariant-loop-spot
-invariant-loop-spot l = record {
-  kept : Kept (net_in l.net.words.now) (kinds_in (net_in l.net.words.now) l.register) l.body (Window l.window l.least) l.initial.rec l.initial.spot l.rec (going l.spot);
-  follows : Follows l.net.words.now l.rec l.register l.spot.accepted;
-  inside : l.spot.from ≤ length l.window;
-  same_length : length l.rec ≡ length l.initial.rec;
-  grown : l.initial.spot.accepted ≤ l.spot.accepted;
-  first : l.spot.accepted ≤ l.initial.spot.accepted → l.spot.from ≡ l.initial.spot.from;
+abbrev pub invariant-loop-from : goal.invariant-loop-from
+invariant-loop-from l = record {
+  kept : Kept (followed_net l.initial.following) (followed_kinds l.initial.following) l.initial.following.body (Window l.window l.least) l.initial.following.rec.now (spot_at 0 l.initial.following) l.following.rec.now (going (spot_at l.from l.following));
+  inside : l.from ≤ length l.window;
+  same : SameTrail l.initial.following l.following;
+  grown : l.initial.following.accepted ≤ l.following.accepted;
+  first : l.following.accepted ≤ l.initial.following.accepted → l.from ≡ 0;
 }
 
-abbrev pub decreases-loop-spot : goal.decreases-loop-spot
-decreases-loop-spot l = 1000001 - l.spot.accepted
+abbrev pub decreases-loop-from : goal.decreases-loop-from
+decreases-loop-from l = 1000001 - l.following.accepted

@@ -1,21 +1,23 @@
 -- A register that is too long is refused, however much of it is there. Assumes nothing.
-use mathlib.Core.Path.{ap, sym, subst, ◌∙◌}
+use mathlib.Core.Path.{sym}
 use mathlib.Core.List.{[]}
 use native.Mathlib.Omega.{arith}
-use Rattle.net.specs.Net.{Net}
-use Rattle.trace_header.specs.Opening.{open_code}
-use Rattle.program_output.specs.declared.Ending.{Ending}
-use Rattle.program_output.specs.declared.Ending.TheVariants.{Refused}
-use Rattle.program_output.specs.Ending.{Printable}
-use Rattle.program_text.specs.FromFile.{BehindContents}
+use Rattle.std.proofs.lemmas.Result.{err_from_is_err_and}
+use Rattle.words.specs.Words.{words_of}
+use Rattle.program_open.proofs.Opening.{refused-code, too-long}
 use Rattle.program_text.proofs.Texts.{register-passed}
 use Rattle.program_open.proofs.open_bodies.Goals as goal
+use Rattle.program_open.proofs.open_bodies.Goals.{then-most-claimed+in_ok-opening_refusal, else-most-claimed}
 
-pub returns-then-most_bytes-claimed : goal.returns-then-most_bytes-claimed
-returns-then-most_bytes-claimed g c =
-    let p = c.pass_register in
-    let e = p.ensures ∙ ap (λ (N : Net). Refused (open_code N c.args.claimed c.skip.result []) 0) c.requires.tabled.net in record {
-      text = subst (λ (r : Ending). BehindContents c.args.table.now c.args.claimed c.args.body [] 0 r c.args.rec.now) (sym e)
-          (register-passed c.args.table.now c.requires.tabled.taken c.args.claimed c.args.body c.skip.result c.args.rec.now (omega arith));
-      printable = subst (Printable c.args.net.now.words.now c.args.rec.now) (sym e) tt;
-    }
+pub returns-in_err-opening_refusal-clause-text : goal.returns-in_err-opening_refusal-clause-text
+unfolding words_of
+returns-in_err-opening_refusal-clause-text g c =
+    let k = c.args.claimed.now in
+    let p = err_from_is_err_and c.from_residual.result c.from_residual.ensures.1 in
+    rw (p.1, p.2, refused-code _ _ [] _ _ _ k.tabled.tabled c.in_err-opening_refusal.ensures) (register-passed _ k.tabled.tabled.taken k.bodies c.skip-there.result c.args.rec.now (omega arith))
+
+pub read_register-requires-clause-short : goal.read_register-requires-clause-short
+read_register-requires-clause-short g c = elim c.if-most-claimed.branch [
+  | then-most-claimed+in_ok-opening_refusal w ↦ absurd (too-long _ _ _ _ (omega arith) (sym w.in_ok-opening_refusal.ensures))
+  | else-most-claimed w ↦ omega arith
+]

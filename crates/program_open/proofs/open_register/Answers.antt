@@ -1,26 +1,32 @@
 -- A register that is not refused is wholly there and starts a trail. Assumes nothing.
-use mathlib.Core.Path.{◌≡◌, refl, ap, sym, ◌∙◌}
+use mathlib.Core.Path.{sym}
 use lib.ListN.{length}
-use Rattle.net.specs.Net.{Net}
-use Rattle.net.specs.Table.{net_of}
-use Rattle.replay.specs.Register.{kinds_in}
-use Rattle.trace_header.specs.Opening.{open_code}
-use Rattle.program_open.proofs.Opening.{register-startable}
+use Rattle.std.proofs.lemmas.Result.{err_from_is_err_and}
+use Rattle.trace_header.specs.Answers.{open_error_code}
+use Rattle.trace_header.specs.contracts.OpenErrorRefusal.TheImpl.Laws.{not_zero-law}
+use Rattle.program_open.proofs.Opening.{startable, registered, refused-code}
 use Rattle.program_text.proofs.Texts.{register-refused, register-taken}
 use Rattle.program_open.proofs.open_register.Goals as goal
 
-pub returns-then-code-ne0 : goal.returns-then-code-ne0
-returns-then-code-ne0 g c =
-    let code_is : c.opening_refusal-code.result ≡ open_code (net_of c.args.table.now) c.args.claimed (length c.args.register.now) (kinds_in (net_of c.args.table.now) c.args.register.now) = c.opening_refusal-code.ensures ∙ ap (λ (N : Net). open_code N c.args.claimed (length c.args.register.now) (kinds_in N c.args.register.now)) c.requires.tabled.net in
-    record { text = register-refused c.args.table.now c.requires.tabled.taken c.args.register.now c.args.claimed c.args.body c.args.rec.now c.requires.at_most_claimed c.opening_refusal-code.result code_is c.if-code-ne0.true; printable = tt }
+pub returns-in_err-opening_refusal-clause-text : goal.returns-in_err-opening_refusal-clause-text
+returns-in_err-opening_refusal-clause-text g c =
+    let k = c.args.claimed.now in let T = k.tabled.tabled in let e = c.in_err-opening_refusal in
+    let p = err_from_is_err_and c.from_residual.result c.from_residual.ensures.1 in
+    rw (p.1, p.2) (register-refused _ T.taken c.args.register.now k.bodies c.args.rec.now c.requires.at_most_claimed (open_error_code e.field-0.0) (refused-code _ _ c.args.register.now _ _ _ T e.ensures) (not_zero-law e.field-0.0))
 
-pub read_events-requires : goal.read_events-requires
-read_events-requires g c =
-    let r = register-startable c.args.net.now.words.now c.args.table.now c.args.register.now c.args.claimed (length c.args.register.now) c.requires.tabled c.requires.whole_rows refl c.requires.at_most_claimed (sym c.opening_refusal-code.ensures ∙ c.if-code-ne0.false) in
-    record { startable = r.0; registered = r.1; room = c.requires.room }
+pub invariant_of-start : goal.invariant_of-start
+invariant_of-start g c =
+    let k = c.args.claimed.now in
+    record { startable = startable k.tabled.net.words.now k.tabled.table.now c.args.register.now k.bodies.register k.tabled.tabled k.whole_rows c.requires.at_most_claimed c.in_ok-opening_refusal.ensures }
 
-pub returns : goal.returns
-returns g c =
-    let code_is : c.opening_refusal-code.result ≡ open_code (net_of c.args.table.now) c.args.claimed (length c.args.register.now) (kinds_in (net_of c.args.table.now) c.args.register.now) = c.opening_refusal-code.ensures ∙ ap (λ (N : Net). open_code N c.args.claimed (length c.args.register.now) (kinds_in N c.args.register.now)) c.requires.tabled.net in
-    let r = c.read_events in
-    record { text = register-taken c.args.table.now c.requires.tabled.taken c.args.register.now c.args.claimed c.args.body r.new.rec c.requires.at_most_claimed r.result (sym code_is ∙ c.if-code-ne0.false) r.ensures.text; printable = r.ensures.printable }
+pub read_events-requires-clause-registered : goal.read_events-requires-clause-registered
+read_events-requires-clause-registered g c =
+    let k = c.args.claimed.now in
+    registered k.tabled.net.words.now k.tabled.table.now c.args.register.now k.bodies.register k.tabled.tabled k.whole_rows c.requires.at_most_claimed c.in_ok-opening_refusal.ensures
+
+pub returns-clause-text : goal.returns-clause-text
+returns-clause-text g c =
+    let k = c.args.claimed.now in let T = k.tabled.tabled in let f = c.read_events in
+    register-taken _ T.taken c.args.register.now k.bodies f.new.rec c.requires.at_most_claimed f.result
+    (sym (refused-code k.tabled.net.words.now k.tabled.table.now c.args.register.now k.bodies.register (length c.args.register.now) 0 T c.in_ok-opening_refusal.ensures))
+    f.ensures.text

@@ -1,17 +1,17 @@
--- Each arm by what the contents say. Assumes nothing.
+-- The contents are broken, or claim whole rows. Assumes nothing.
+use mathlib.Core.Path.{sym, ◌∙◌}
+use Rattle.std.proofs.lemmas.Result.{err_from_is_err_and}
 use Rattle.trace_header.proofs.OpenLaws.{whole-rows}
-use Rattle.program_open.proofs.Opening.{contents-of}
-use Rattle.program_text.proofs.Texts.{contents-refused, contents-taken}
+use Rattle.program_open.proofs.Opening.{contents-of, refused-with}
+use Rattle.program_text.proofs.Texts.{contents-refused}
 use Rattle.program_open.proofs.open_trail.Goals as goal
 
-pub open_bodies-requires : goal.open_bodies-requires
-open_bodies-requires g c = record { tabled = c.requires.tabled; whole_rows = whole-rows _ c.args.head.now _ _ (contents-of c.args.net.now.words.now c.args.table.now c.args.head.now c.requires.tabled c.read_contents.ensures.answer c.in-Bodies.is); room = c.requires.room }
+pub invariant_of-claimed : goal.invariant_of-claimed
+invariant_of-claimed g c =
+    record { whole_rows = whole-rows _ c.args.head.now c.in_ok-bodies.bodies (contents-of _ _ c.args.head.now c.args.tabled.now.tabled _ (sym c.in_ok-bodies.ensures.ok_part ∙ c.read_contents.ensures.answer)) }
 
-pub returns-in-Broken : goal.returns-in-Broken
-returns-in-Broken g c =
-    record { text = contents-refused c.args.table.now c.requires.tabled.taken c.args.head.now c.args.rec.now (contents-of c.args.net.now.words.now c.args.table.now c.args.head.now c.requires.tabled c.read_contents.ensures.answer c.in-Broken.is); printable = tt }
-
-pub returns-in-Bodies : goal.returns-in-Bodies
-returns-in-Bodies g c =
-    let f = c.open_bodies in
-    record { text = contents-taken c.args.table.now c.requires.tabled.taken c.args.head.now _ _ f.result f.new.rec c.requires.head_short (contents-of c.args.net.now.words.now c.args.table.now c.args.head.now c.requires.tabled c.read_contents.ensures.answer c.in-Bodies.is) f.ensures.text; printable = f.ensures.printable }
+pub returns-in_err-bodies-clause-text : goal.returns-in_err-bodies-clause-text
+returns-in_err-bodies-clause-text g c =
+    let p = err_from_is_err_and c.from_residual.result c.from_residual.ensures.1 in
+    rw (p.1, p.2, refused-with _ c.in_err-bodies.field-0.0 _ c.in_err-bodies.ensures.ok_part c.in_err-bodies.ensures.value)
+    (contents-refused _ c.args.tabled.now.tabled.taken c.args.head.now c.args.rec.now (contents-of _ _ c.args.head.now c.args.tabled.now.tabled _ (sym c.in_err-bodies.ensures.ok_part ∙ c.read_contents.ensures.answer)))

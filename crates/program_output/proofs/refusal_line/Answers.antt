@@ -3,12 +3,7 @@ use native.Mathlib.Omega.{arith}
 use Rattle.program_output.proofs.Refusal.{refusal-written}
 use Rattle.program_output.proofs.refusal_line.Goals as goal
 
-pub returns-in-Refused-clause-size : goal.returns-in-Refused-clause-size
-returns-in-Refused-clause-size c =
+pub returns-clause-line : goal.returns-clause-line
+returns-clause-line c =
     let w = c.refused_line in
-    rw c.unwrap_or.ensures (refusal-written c.in-Refused.code c.in-Refused.events (omega arith) (omega arith) _ w.result _ c.requires w.ensures).0
-
-pub returns-in-Refused-clause-line : goal.returns-in-Refused-clause-line
-returns-in-Refused-clause-line c =
-    let w = c.refused_line in
-    rw (c.in-Refused.is, c.unwrap_or.ensures) (refusal-written c.in-Refused.code c.in-Refused.events (omega arith) (omega arith) _ w.result _ c.requires w.ensures).1
+    rw c.unwrap_or.ensures (refusal-written c.args.refused.code c.args.refused.events (omega arith) (omega arith) _ w.result _ c.requires w.ensures).1
