@@ -20,7 +20,7 @@ fn say<W: Write>(out: &mut W, x: usize) {
     let _ = write!(out, " {x}");
 }
 
-// How many words, from the first on, are as they were.
+// How many words, from the first on, are as they were. The words of a table that was refused: there is no `LoadedNet`.
 fn unchanged(t: &NetWords) -> usize {
     t.iter().position(|word| *word != MARK).unwrap_or(NET_WORDS)
 }
