@@ -3,7 +3,8 @@
 
 #![tactic(auto)]
 
-ghost use Rattle.std.specs.Prelude.{◌≡◌, length, replicate};
+ghost use Rattle.std.specs.Prelude.{◌≡◌, ◌≤◌, length, replicate};
+ghost use Rattle.words.specs.Lists.{over};
 ghost use Rattle.checkpoint.specs.Restore.{restore_code, restore_second};
 ghost use Rattle.checkpoint.specs.Calls.{save_code, save_bytes};
 ghost use Rattle.checkpoint.specs.Answers.{restore_answer_code, restore_answer_second, saved_code};
@@ -69,6 +70,17 @@ pub fn check(rec: &[u8], t: &mut NetWords) -> Result<(), RestoreError>
     check_table(rec, t)
 }
 
+// The bytes of `from` become the first bytes of `to`. A loop, since `copy_from_slice` calls `memmove` here, and the archive is to ask
+// of C only what it has always asked.
+fn copy_front(from: &[u8], to: &mut [u8])
+    requires { length from.now ≤ length to.old }
+    ensures { to.new ≡ over from.now to.old }
+{
+    for i in 0..from.len() {
+        to[i] = from[i];
+    }
+}
+
 // Puts down the record of a trail, which is the trail's bytes: they become the first of the lent bytes.
 #[tactic(auto, using(crate::proofs::Lent::saves))]
 pub fn save(trail: &[u8], lent: &mut [u8]) -> Result<(), SaveError>
@@ -78,12 +90,12 @@ pub fn save(trail: &[u8], lent: &mut [u8]) -> Result<(), SaveError>
     if lent.len() < trail.len() {
         return Err(SaveError::NoRoom);
     }
-    lent[..trail.len()].copy_from_slice(trail);
+    copy_front(trail, lent);
     Ok(())
 }
 
 // Takes up a record, any bytes: they become the first bytes of the trail, as a save of it puts them. A refusal changes nothing.
-#[tactic(auto, using(crate::proofs::Opening::takes, checkpoint::proofs::Numbers::not_restored))]
+#[tactic(auto, using(crate::proofs::Opening::takes, crate::proofs::Lent::saves, checkpoint::proofs::Numbers::not_restored))]
 pub fn restore(rec: &[u8], trail: &mut [u8]) -> Result<(), RestoreError>
     ensures code { restore_answer_code result ≡ take_code rec.now (length trail.old) }
     ensures second { restore_answer_second result ≡ restore_second rec.now }

@@ -102,8 +102,9 @@ fn copy_words(s: &[u8], out: &mut [u8], base: usize)
     ensures after { words_of out.new ≡ sets (words_of out.old) base (words_of s.now) }
     ensures bytes { (i : ℕ) → get_or s.now i 0 < 256 }
 {
-    let n = 4 * (s.len() / 4);
-    out[4 * base..4 * base + n].copy_from_slice(&s[..n]);
+    for i in 0..s.len() / 4 {
+        words::put_word(out, base + i, words::get_word(s, i));
+    }
 }
 
 // Object o's row of the positions: it stands on its kind's source.

@@ -1,29 +1,33 @@
--- The bytes of all whole numbers are copied. Assumes nothing.
-use Prim.Native.Nat.{ℕ, ◌*◌, ◌/◌}
-use mathlib.Core.Path.{ap, ◌∙◌}
-use mathlib.Core.List.{List}
-use lib.ListN.{length}
-use lib.Seq.{sets, length-take-le}
+-- A number more; past the last, nothing is left to store. Assumes nothing.
+use Prim.Native.Nat.{◌+◌}
+use mathlib.Core.Path.{sym, ◌∙◌}
 use native.Mathlib.Omega.{arith}
+use native.Mathlib.Nat.{add_assoc}
 use Rattle.words.specs.Words.{words_of}
 use Rattle.words.proofs.Words.{length-words}
-use Rattle.replay_start.proofs.CopyLaws.{words-copied, words_in}
+use Rattle.words.proofs.Stores.{store-more, store-end}
 use Rattle.replay_start.proofs.copy_words.Goals as goal
-
-pub overflow_mul-base : goal.overflow_mul-base
-overflow_mul-base c = omega (arith, length-words c.args.out.now)
-
-pub overflow_mul-base-2 : goal.overflow_mul-base-2
-overflow_mul-base-2 c = omega (arith, length-words c.args.out.now)
 
 pub overflow_add-base : goal.overflow_add-base
 overflow_add-base c = omega (arith, length-words c.args.out.now, length-words c.args.s.now)
 
-pub slice_bounds-copy_from_slice-end : goal.slice_bounds-copy_from_slice-end
-slice_bounds-copy_from_slice-end c = omega (arith, length-words c.args.out.now, length-words c.args.s.now)
+pub get_word-requires : goal.get_word-requires
+get_word-requires c = omega (arith, length-words c.args.s.now)
+
+pub put_word-requires : goal.put_word-requires
+put_word-requires c = omega (arith, length-words c.args.out.now, length-words c.loop-i.out, length-words c.args.s.now)
+
+pub loop-i-preserved : goal.loop-i-preserved
+loop-i-preserved c =
+    let l = c.loop-i in
+    let a = c.args in (
+      omega (arith, c.put_word.auto.s, l.invariant.0),
+      rw (← add_assoc, c.put_word.ensures.words, c.get_word.ensures)
+          (store-more (words_of l.out) (words_of a.s.now) (a.base + l.i) l.i (omega (arith, length-words a.s.now, c.loop-i-test.true)) ∙ l.invariant.1),
+    )
 
 pub returns-clause-after : goal.returns-clause-after
 returns-clause-after c =
+    let l = c.loop-i in
     let a = c.args in
-    words-copied a.out.now c.copy_from_slice.new.self a.base (length a.s.now / 4) _ (ap length c.copy_from_slice.ensures.after ∙ length-take-le (4 * (length a.s.now / 4)) a.s.now (omega arith)) (omega arith) (omega (arith, c.requires, length-words a.s.now))
-    ∙ ap (λ (l : List ℕ). sets (words_of a.out.now) a.base l) (ap words_of c.copy_from_slice.ensures.after ∙ words_in a.s.now)
+    sym (store-end (words_of l.out) (words_of a.s.now) (a.base + l.i) l.i (omega (arith, length-words a.s.now, c.loop-i-test.false))) ∙ l.invariant.1
