@@ -23,8 +23,8 @@ use words::{wide, word_at};
 
 mod event;
 
-// A position in the events body, in bytes from its start.
-#[derive(Drop)]
+// A position in the events body, in bytes from its start. It is copied into a read: where no event is read, who reads has it as it was.
+#[derive(Clone, Copy)]
 pub struct Cursor {
     pub at: usize,
 }
