@@ -35,12 +35,17 @@ impl Refusal for RegisterError {
     }
 }
 
-// 12: an object of unknown kind.
+// 12: an object of unknown kind. Each check of a record asks it of all objects, and a chain takes more instructions for each of them.
 fn unknown_kind(register: &[u8], net: &LoadedNet) -> bool
     ensures { result ≡ any (λ (k : ℕ). leb (net_in net.now.words.now).kinds k) (kinds_in (net_in net.now.words.now) register.now) }
 {
     let known = net.kinds();
-    (0..objects(register, net.words)).any(|o| known <= wide(kind(register, net.words, o)))
+    for o in 0..objects(register, net.words) {
+        if known <= wide(kind(register, net.words, o)) {
+            return true;
+        }
+    }
+    false
 }
 
 // 11 or 12, by a register's bytes.
