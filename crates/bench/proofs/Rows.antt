@@ -88,6 +88,9 @@ pub record Left (b₀ s b rest : List ℕ) (n : ℕ) : Type 0 where
   pub count : n + accepted b (events_in rest) ≡ accepted b₀ (events_in s)
   pub bytes : carried b (events_in rest) ≡ carried b₀ (events_in s)
 
+pub left-start : (b s : List ℕ) → Left b s b s 0
+left-start b s = record { few = omega arith; count = omega arith; bytes = refl }
+
 module _ (b₀ s b rest : List ℕ) (n : ℕ) (L : Left b₀ s b rest n) where
   -- no event is left
   pub left-end : events_in rest ≡ [] → (n ≡ accepted b₀ (events_in s)) × (b ≡ carried b₀ (events_in s))

@@ -11,7 +11,7 @@ use Rattle.std.proofs.lemmas.List.Sums.{sum-map}
 use lib.ListN.{length, get_or, drop}
 use lib.Seq.{get_or-drop}
 use lib.Dec.{ltb, eqb}
-use borrow.Author.Tests.{eq-eqb, ltb-false}
+use borrow.Author.Tests.{eq-eqb, ne_eqb, ltb-false}
 use Rattle.words.specs.Lists.{pick, either, any_to, sum_to, both}
 use Rattle.words.specs.Words.{word, words_of}
 use Rattle.words.proofs.Lists.{any_none, is_eq}
@@ -88,6 +88,9 @@ module _ (N : Net) (ks cs : List ℕ) (size : ℕ) where
 
   above-is : any_to N.acts (λ (a : ℕ). ltb (get_or (evens (drop 3 (words_of cs))) a 0 * length (N.arcs a)) (get_or (odds (drop 3 (words_of cs))) a 0)) ≡ above
   above-is = any_to-same N.acts _ _ (λ a h. ap₂ (λ (x y : ℕ). ltb (x * length (N.arcs a)) y) (fired-at (words_of cs) a) (jumps_at (words_of cs) a))
+
+  pub counts-size : (size ≡ 4 * counts_size N → ⊥) → true ≡ answer
+  counts-size n = rw (ne_eqb size (4 * counts_size N) n)
 
   -- where the length is right, the other tests decide
   pub counts-hit : size ≡ 4 * counts_size N

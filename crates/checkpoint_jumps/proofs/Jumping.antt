@@ -71,6 +71,11 @@ beside n xs ys h k =
     ∙ ap (λ (m : ℕ). any_to m (λ (q : ℕ). f (get_or Z q (0, 0)))) l
     ∙ any_to-same n _ _ (λ q g. ap f (get_or-zip (take n xs) (take n ys) q (0, 0) (omega arith) (omega arith)) ∙ ap₂ ltb (get_or-take n xs q 0 g) (get_or-take n ys q 0 g))
 
+-- TAKEN of place q
+pub consumed-is : (N : Net) (ks cs : List ℕ) (q : ℕ)
+    → sum_to N.acts (λ (a : ℕ). get_or (words_of cs) (3 + 2 * a) 0 * inputs N q a) + get_or (words_of cs) 0 0 * sunk_on N (closer_kinds (kinds_in N ks)) q ≡ stored_consumed N (body_state N ks [] cs []) q
+consumed-is N ks cs q = ap (λ (n : ℕ). n + get_or (words_of cs) 0 0 * sunk_on N (closer_kinds (kinds_in N ks)) q) (sum_to-same N.acts _ _ (λ a h. ap (λ (v : ℕ). v * inputs N q a) (sym (fired-at (words_of cs) a))))
+
 -- TAKEN of each place, as summed: what the events take, then what the close takes
 module _ (N : Net) (ks cs row taken : List ℕ) where
   taken-is : Added N.places (replicate 64 0) row (λ (q : ℕ). sum_to N.acts (λ (a : ℕ). get_or (words_of cs) (3 + 2 * a) 0 * inputs N q a))
@@ -79,7 +84,8 @@ module _ (N : Net) (ks cs row taken : List ℕ) where
   taken-is A B q h =
       B.at q h
       ∙ ap (λ (n : ℕ). n + get_or (words_of cs) 0 0 * sunk_on N (closer_kinds (kinds_in N ks)) q)
-      (zeros-added N.places row _ A q h ∙ sum_to-same N.acts _ _ (λ a l. ap (λ (v : ℕ). v * inputs N q a) (sym (fired-at (words_of cs) a))))
+      (zeros-added N.places row _ A q h)
+      ∙ consumed-is N ks cs q
 
   pub taken-above : Added N.places (replicate 64 0) row (λ (q : ℕ). sum_to N.acts (λ (a : ℕ). get_or (words_of cs) (3 + 2 * a) 0 * inputs N q a))
       → Added N.places row taken (λ (q : ℕ). get_or (words_of cs) 0 0 * sunk_on N (closer_kinds (kinds_in N ks)) q)
@@ -91,6 +97,9 @@ module _ (N : Net) (ks cs row taken : List ℕ) where
 
 -- 47, of a register, a counts body and a jumps body of `size` bytes
 module _ (N : Net) (ks cs js : List ℕ) (size : ℕ) where
+  abbrev answer : Bool
+  answer = hit (tests47 N (body_state N ks [] cs js) size)
+
   abbrev jumps : ℕ
   jumps = sum_to N.acts (λ (a : ℕ). get_or (words_of cs) (4 + 2 * a) 0) + get_or (words_of cs) 2 0
 
@@ -103,6 +112,22 @@ module _ (N : Net) (ks cs js : List ℕ) (size : ℕ) where
 
   sum_is : sum_to (N.places * N.places) (λ (i : ℕ). get_or (words_of js) i 0) ≡ sum_to N.places into
   sum_is = sum-columns N.places N.places (λ (i : ℕ). get_or (words_of js) i 0)
+
+  pub jumps-size : (size ≡ 4 * (N.places * N.places) → ⊥) → true ≡ answer
+  jumps-size n = rw (ne_eqb size (4 * (N.places * N.places)) n)
+
+  module _ (e : size ≡ 4 * (N.places * N.places)) where
+    pub jumps-barred : (sum_to N.places (barred_in N js) ≡ 0 → ⊥) → true ≡ answer
+    jumps-barred n = rw (eq-eqb size (4 * (N.places * N.places)) e, barred-is N js, ne_eqb (sum_to N.places (barred_in N js)) 0 n)
+
+    module _ (z : sum_to N.places (barred_in N js) ≡ 0) where
+      pub jumps-sum : (sum_to N.places into ≡ jumps → ⊥) → true ≡ answer
+      jumps-sum n = rw (eq-eqb size (4 * (N.places * N.places)) e, barred-is N js, eq-eqb (sum_to N.places (barred_in N js)) 0 z, sum_is, jumps-is, ne_eqb (sum_to N.places into) jumps n)
+
+      pub jumps-above : sum_to N.places into ≡ jumps → any_to N.places (λ (q : ℕ). ltb (stored_consumed N (body_state N ks [] cs []) q) (into q)) ≡ answer
+      jumps-above s =
+          rw (eq-eqb size (4 * (N.places * N.places)) e, barred-is N js, eq-eqb (sum_to N.places (barred_in N js)) 0 z, sum_is, jumps-is, eq-eqb (sum_to N.places into) jumps s)
+          (either-one _)
 
   -- where the length is right, the other tests decide; `row` has IN of each place
   pub jumps-hit : (row : List ℕ) (n a : ℕ) → n ≡ N.places → a ≡ N.acts → N.places ≤ 64 → Added N.places (replicate 64 0) row into → size ≡ 4 * (N.places * N.places)

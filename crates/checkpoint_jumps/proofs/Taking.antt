@@ -52,6 +52,11 @@ module _ (N : Net) (q : ℕ) where
       go true h = h
       go false h = omega arith
 
+  -- over the kinds below k
+  pub taken-le : (a k : ℕ) → sum_to k (taken_by N a q) ≤ k
+  taken-le a zero = omega arith
+  taken-le a (suc k) = omega (arith, taken-one a k, taken-le a k)
+
   -- what `fired` events of activity a take, over the kinds below k, and over all
   module _ (a fired : ℕ) where
     pub taken-most : (k : ℕ) → fired ≤ 4294967295 → sum_to k (λ (j : ℕ). fired * taken_by N a q j) ≤ 4294967295 * k

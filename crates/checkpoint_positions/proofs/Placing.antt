@@ -1,16 +1,17 @@
 -- Test 45, object by object, and over all objects at once. Assumes nothing.
-use Prim.Native.Nat.{ℕ, ◌*◌, ◌<◌}
+use Prim.Native.Nat.{ℕ, ◌*◌, ◌≤◌, ◌<◌}
 use mathlib.Core.Bool.{Bool, true, false, not}
 use mathlib.Core.Path.{◌≡◌, refl, ap, ◌∙◌}
 use mathlib.Core.List.{List, [], ◌∷◌}
 use native.Mathlib.Decide.{ℕ_discrete}
 use lib.ListN.{length, get_or}
 use lib.Dec.{leb, eqb}
-use borrow.Author.Tests.{eq-eqb, ne_eqb, lt-leb}
+use borrow.Author.Tests.{eq-eqb, ne_eqb, le-leb, lt-leb}
 use Rattle.std.specs.List.{list_any, range_with_len}
 use Rattle.words.specs.Lists.{pick, any, either, both}
 use Rattle.words.proofs.Chains.{any_to-is}
 use Rattle.words.proofs.Lists.{both_false}
+use Rattle.words.proofs.Scan.{either-one}
 use Rattle.net.specs.Net.{Net, Loaded}
 use Rattle.replay.specs.Plain.{closers}
 use Rattle.replay.specs.State.{State}
@@ -31,6 +32,12 @@ module _ (N : Net) (k p : ℕ) where
       go : Dec (p ≡ N.sink k) → not (eqb p (N.sink k)) ≡ bad_position N true k p
       go (yes e) = rw (e, lt-leb N.places (N.sink k) (L.sink-in k h), eq-eqb (N.kind_of (N.sink k)) k (L.sink-of k h), eq-eqb (N.sink k) (N.sink k) refl)
       go (no n) = rw (ne_eqb p (N.sink k) n) (or-last (leb N.places p) (not (eqb (N.kind_of p) k)))
+
+  pub open_unknown : N.places ≤ p → true ≡ bad_position N false k p
+  open_unknown h = rw (le-leb _ _ h)
+
+  pub open-known : p < N.places → not (eqb (N.kind_of p) k) ≡ bad_position N false k p
+  open-known h = rw (lt-leb _ _ h) (either-one _)
 
 -- a search for one of three is three searches
 or_swap : (a x b y c z : Bool) → pick (either (a ∷ b ∷ c ∷ [])) true (either (x ∷ y ∷ z ∷ [])) ≡ either (pick a true x ∷ pick b true y ∷ pick c true z ∷ [])
@@ -53,8 +60,11 @@ module _ {A : Type 0} (f g h : A → Bool) (c : Bool) where
   three [] = rw (both_false c false (λ q. refl))
   three (x ∷ xs) = rw (three xs) (or_swap (f x) (any f xs) (g x) (any g xs) (both c (h x)) (both c (any h xs)) ∙ ap (λ (b : Bool). either (pick (f x) true (any f xs) ∷ pick (g x) true (any g xs) ∷ b ∷ [])) (or-both c (h x) (any h xs)))
 
--- the whole test, object by object; the close takes every object
+-- the whole test: by its length, and object by object; the close takes every object
 module _ (N : Net) (d : State) (size : ℕ) (closed : Bool) where
+  pub positions-size : (size ≡ 4 * length d.kinds → ⊥) → true ≡ hit (tests45 N d size closed)
+  positions-size n = rw (ne_eqb size (4 * length d.kinds) n)
+
   pub positions-hit : size ≡ 4 * length d.kinds → list_any (λ (o : ℕ). bad_position N closed (get_or d.kinds o 0) (get_or d.places o 0)) (range_with_len 0 (length d.kinds)) ≡ hit (tests45 N d size closed)
   positions-hit e =
       any_to-is (λ (o : ℕ). bad_position N closed (get_or d.kinds o 0) (get_or d.places o 0)) (length d.kinds)

@@ -13,17 +13,24 @@ use Rattle.net.specs.Net.{Arc, GoodArc, kinds_of}
 use Rattle.net.specs.Table.{pass, passes, marked}
 use Rattle.net.specs.Held.{net_in, places_in, arcs_in}
 use Rattle.net.specs.Ruled.{Ruled, source_marks}
-use Rattle.net.proofs.Views.{kinds-is, places-length, places_is, arcs-length}
+use Rattle.net.proofs.Views.{kinds-is, places-length, places_is, place_at, arcs-length}
 use Rattle.net.proofs.Marks.{joint-is, pass-turn, pass-end, passes-turn, passes-end, passes_stay}
 use Rattle.net.proofs.Promise.{Ends, ends-good, arcs-good}
 use lib.Dec.{leb, eqb}
 
 module _ (w : List ℕ) (R : Ruled w) where
-  good-arcs : All (GoodArc (net_in w)) (pair_up (arcs_in w))
+  pub good-arcs : All (GoodArc (net_in w)) (pair_up (arcs_in w))
   good-arcs = arcs-good (net_in w) (pair_up (arcs_in w)) R.arcs
 
-  good-ends : (k : ℕ) → k < (net_in w).kinds → Ends (net_in w) k
+  pub good-ends : (k : ℕ) → k < (net_in w).kinds → Ends (net_in w) k
   good-ends = ends-good (net_in w) R.ends
+
+  pub kind-in : (p : ℕ) → p < get_or w 1 0 → get_or w (20 + p) 0 < get_or w 0 0
+  kind-in p h =
+      let a : get_or (places_in w) p 0 < (net_in w).kinds = All-at (λ (k : ℕ). k < (net_in w).kinds) 0 (places_in w)
+      (any_none (λ (k : ℕ). leb (net_in w).kinds k) (λ (k : ℕ). k < (net_in w).kinds) (λ k e. leb-false _ _ e) (places_in w) R.places)
+      p (omega (arith, places-length w R.sized)) in
+      omega (arith, a, place_at w R.sized p h, kinds-is w R.sized)
 
   pub kind-small : (p : ℕ) → p < length (places_in w) → get_or (places_in w) p 0 < 8
   kind-small p h =

@@ -95,6 +95,11 @@ module _ (N : Net) (ks : List ℕ) (body : ℕ) where
   unfolding goes_on
   kept-start P trail s = record { same = λ f i p. refl }
 
+  -- where it is not over the spot alone counts
+  pub kept-going : (P : List ℕ → ℕ → Type 0) (trail : List ℕ) (s : Spot) (left : List ℕ) (r : Outcome) → Kept N ks body P trail s left r → r.over ≡ false → Kept N ks body P trail s left (going r.spot)
+  unfolding goes_on
+  kept-going P trail s left r K o = record { same = λ f i p. rw o at (K.same f i p) }
+
   -- a step more
   pub kept_step : Loaded N → (w : List ℕ) (least : ℕ) (trail : List ℕ) (start : Spot) (rec : List ℕ) (s : Spot) (left : List ℕ) (g : Following) (r : Result (Option ℕ) TraceError)
       → Kept N ks body (Window w least) trail start rec (going s) → least ≤ length w - s.from → s.from ≤ length w → s.accepted ≤ 1000000

@@ -40,10 +40,10 @@ module _ (t rec register : List ℕ) (n : ℕ) (F : Follows t rec register n) wh
 
   -- an event that is not refused
   module _ (e : Event) (z : refusal (net_in t) (kinds_in (net_in t) register) 0 n e ≡ 0) where
-    event-code : ask_code rec (event e) ≡ 0
+    pub event-code : ask_code rec (event e) ≡ 0
     event-code = sym (code_is t rec F.ready (event e)) ∙ rw (F.kinds, F.still_open, F.events) z
 
-    event-room : n < 1000000
+    pub event-room : n < 1000000
     event-room = (accepted (net_in t) (kinds_in (net_in t) register) 0 n e z).few
 
     after : state_at (ask_bytes rec (event e)) ≡ accept_s (net_in t) (state_at rec) (event e)

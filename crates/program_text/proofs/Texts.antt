@@ -46,6 +46,17 @@ begins-all f room = record { part = take_all (length f) f (omega arith); last = 
 begins-more : (front : List ℕ) (room : ℕ) (g : List ℕ) → room ≤ length front → Begins front room (front ++ g)
 begins-more front room g h = record { part = take-append_seam front g; last = λ l. absurd (omega arith) }
 
+-- less is known before it is read
+module _ (table front : List ℕ) (room : ℕ) (r : Result ℕ Refused) (rec : List ℕ) where
+  pub from-file : FromFile table front room r rec → FromFile table [] 0 r rec
+  from-file F = record { file = F.file; begins = begins-none F.file; text = F.text }
+
+  pub behind-contents : (bodies : Bodies) → BehindContents table bodies front room r rec → BehindContents table bodies [] 0 r rec
+  behind-contents bodies B = record { rest = B.rest; begins = begins-none B.rest; text = B.text }
+
+  pub behind-register : (register : List ℕ) (body : ℕ) → BehindRegister table register body front room r rec → BehindRegister table register body [] 0 r rec
+  behind-register register body B = record { file = B.file; begins = begins-none B.file; came = B.came }
+
 -- the table is refused
 pub load-refused : (table : List ℕ) (code : ℕ) (rec : List ℕ) → code ≡ load_code table → (code ≡ 0 → ⊥) → FromFile table [] 0 (Err (at_once code)) rec
 unfolding program_text

@@ -38,6 +38,11 @@ Sinking w b l o s v =
 upto-first : (n o : ℕ) → o < n → upto (n - o) o ≡ o ∷ upto (n - (o + 1)) (o + 1)
 upto-first n o h = let e : n - o ≡ suc (n - (o + 1)) = omega arith in ap (λ (j : ℕ). upto j o) e ∙ ap (λ (i : ℕ). o ∷ upto (n - (o + 1)) i) (sym (add-one o))
 
+-- an object's sink is a known place
+pub sink-of-in : (w b : List ℕ) (l : Layout) (R : Ready w b) (e : l ≡ layout_of (net_in w) b)
+    → (o : ℕ) → o < l.objects → (net_in w).sink (get_or (state_at b).kinds o 0) < l.places
+sink-of-in w b l R e o h = omega (arith, (ready-loaded w b R).sink-in (get_or (state_at b).kinds o 0) (kind-of-in w b l R e o h), (placed_at w b l R e).places-are)
+
 module _ (w b : List ℕ) (l : Layout) (R : Ready w b) (e : l ≡ layout_of (net_in w) b) where
   pub sink-start : Sinking w b l 0 0 (words_of b)
   sink-start = let P = placed_at w b l R e in let z : length (state_at b).kinds ≡ l.objects - 0 = omega (arith, P.kinds-size) in record {

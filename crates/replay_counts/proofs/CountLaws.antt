@@ -12,7 +12,7 @@ use borrow.Author.Tests.{eq-eqb, ne_eqb}
 use Rattle.std.specs.Int.{from_bool}
 use Rattle.words.specs.Lists.{pick, has, twice, one, total, sum_to}
 use Rattle.words.proofs.Lists.{clash}
-use Rattle.words.proofs.Sums.{sum_to-append, sum_to-same}
+use Rattle.words.proofs.Sums.{sum_to-append, sum_to-same, sum_to-more, sum_to-under}
 use Rattle.net.specs.Net.{Net, Arc, Loaded, takes, arc_of, input_of}
 use Rattle.net.specs.Held.{net_in, Held}
 use Rattle.net.proofs.HeldLaws.{held-loaded}
@@ -25,6 +25,9 @@ use Rattle.replay_layout.specs.Offsets.{layout_of}
 use Rattle.replay_stored.specs.declared.Trail.{Trail}
 use Rattle.replay_stored.specs.Stored.{Stored}
 use Rattle.replay_stored.proofs.StoredLaws.{are-stored}
+
+pub sum_step : (n : ℕ) (f : ℕ → ℕ) {s v : ℕ} → s ≡ sum_to n f → v ≡ f n → s + v ≡ sum_to (n + 1) f
+sum_step n f p q = omega (arith, sum_to-more n f)
 
 -- the sum of numbers of which none is large
 sum-under : (n m : ℕ) (f : ℕ → ℕ) → ((i : ℕ) → i < n → f i ≤ m) → sum_to n f ≤ n * m
@@ -76,7 +79,7 @@ module _ (kind_of : ℕ → ℕ) (q : ℕ) where
       go (no n) s r =
           rw (ne_eqb (kind_of q) (kind_of x.0) n, ne_eqb (kind_of x.0) (kind_of q) (λ z. n (sym z)), ne_eqb q x.0 (λ z. n (ap kind_of z))) (zero-add (total (λ (x : Arc). one (eqb q x.0)) xs) ∙ r)
 
-inputs-is : (N : Net) → Loaded N → (q a : ℕ) → a < N.acts → inputs N q a ≡ pick (takes N a (N.kind_of q)) (one (eqb q (input_of N a (N.kind_of q)))) 0
+pub inputs-is : (N : Net) → Loaded N → (q a : ℕ) → a < N.acts → inputs N q a ≡ pick (takes N a (N.kind_of q)) (one (eqb q (input_of N a (N.kind_of q)))) 0
 inputs-is N L q a h = one_input N.kind_of q (N.arcs a) (L.arc-once a h)
 
 inputs-le : (N : Net) → Loaded N → (q a : ℕ) → a < N.acts → inputs N q a ≤ 1
@@ -145,8 +148,27 @@ module _ (t : Trail) where
   pub jumps-few : sum_to (net_in t.net.words.now).acts jumps ≤ 512000000
   jumps-few = sum-few N.acts 8000000 jumps loaded.acts-le (λ a l. (stored.jumps a l).few)
 
+  pub moved-few : (a : ℕ) → a < (net_in t.net.words.now).acts → moves a ≤ 8000000
+  moved-few a l = moved_few _ _ (stored.fired a l).few (loaded.arcs-le a l)
+
   pub moves-few : sum_to (net_in t.net.words.now).acts moves ≤ 512000000
-  moves-few = sum-few N.acts 8000000 moves loaded.acts-le (λ a l. moved_few _ _ (stored.fired a l).few (loaded.arcs-le a l))
+  moves-few = sum-few N.acts 8000000 moves loaded.acts-le moved-few
+
+  -- a part of a sum is no more
+  pub in-few : (q : ℕ) → q < (net_in t.net.words.now).places → (i : ℕ) → i ≤ (net_in t.net.words.now).places → sum_to i (into q) ≤ 512065536
+  in-few q h i l = omega (arith, sum_to-under i N.places (into q) l, into-few q h)
+
+  pub out-part : (q : ℕ) → q < (net_in t.net.words.now).places → (i : ℕ) → i ≤ (net_in t.net.words.now).places → sum_to i (out_of q) ≤ 512065536
+  out-part q h i l = omega (arith, sum_to-under i N.places (out_of q) l, out-few q h)
+
+  pub taken-part : (q i : ℕ) → i ≤ (net_in t.net.words.now).acts → sum_to i (taken q) ≤ 64000000
+  taken-part q i l = omega (arith, sum_to-under i N.acts (taken q) l, taken-few q)
+
+  pub jumps-sum-few : (i : ℕ) → i ≤ (net_in t.net.words.now).acts → sum_to i jumps ≤ 512000000
+  jumps-sum-few i l = omega (arith, sum_to-under i N.acts jumps l, jumps-few)
+
+  pub moved-sum-few : (i : ℕ) → i ≤ (net_in t.net.words.now).acts → sum_to i moves ≤ 512000000
+  moved-sum-few i l = omega (arith, sum_to-under i N.acts moves l, moves-few)
 
   -- the close takes every object
   pub sunk-is : (q : ℕ) → sum_to (length (state_at t.rec.now).kinds) (sunk q) ≡ sunk_on (net_in t.net.words.now) (closer_kinds (state_at t.rec.now).kinds) q

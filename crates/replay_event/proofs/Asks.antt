@@ -1,21 +1,22 @@
 -- An event put to a record: the layout fits, its objects are in the register, and their kinds are read there. Assumes nothing.
 use Prim.Native.Nat.{ℕ, ◌+◌, ◌-◌, ◌*◌, ◌/◌, ◌≤◌, ◌<◌}
-use mathlib.Core.Bool.{true, false}
+use mathlib.Core.Bool.{Bool, true, false, not}
 use mathlib.Core.Path.{◌≡◌, refl, ap, sym, ◌∙◌}
-use mathlib.Core.List.{List, ◌++◌, append_assoc}
+use mathlib.Core.List.{List, [], ◌∷◌, ◌++◌, append_assoc}
 use native.Mathlib.Omega.{arith}
 use lib.Dec.{leb, eqb}
 use borrow.Author.Tests.{le-leb, lt-leb, eq-eqb, ne_eqb}
 use lib.ListN.{length, get_or, take, drop, length-append}
 use lib.Seq.{take_at, drop_at}
+use Rattle.words.specs.Lists.{any, twice}
 use Rattle.words.specs.Refusals.{first}
 use Rattle.words.specs.Words.{words_of, bytes_of}
 use Rattle.words.proofs.Words.{length-words, length-bytes, words-of-bytes}
-use Rattle.net.specs.Net.{Net}
+use Rattle.net.specs.Net.{Net, takes}
 use Rattle.net.specs.Held.{net_in}
-use Rattle.replay.specs.Plain.{object_tests, ask_event}
+use Rattle.replay.specs.Plain.{object_kinds, object_tests, ask_event}
 use Rattle.replay.specs.State.{State, answer_s}
-use Rattle.replay.specs.Record.{counts, contents, encode, table_in, state_in}
+use Rattle.replay.specs.Record.{counts, counts_size, contents, encode, table_in, state_in}
 use Rattle.replay.specs.Calls.{net_at, state_at, ask_code}
 use Rattle.replay_layout.specs.Offsets.{closed_at, events_at}
 use Rattle.replay.specs.Ready.{KnownKinds}
@@ -28,6 +29,19 @@ use Rattle.replay.proofs.Encode.{fit-kinds}
 use Rattle.replay_layout.proofs.RecordLaws.{Placed, get-events, ready-loaded, ready-sound, ready_words, ready-length}
 use Rattle.replay_moves.proofs.Layouts.{placed_at, words_size, words-few, kind-of-in, closed-read}
 use Rattle.replay.specs.Limits.{max_record, max_words}
+
+-- what the tests of an event's objects give
+pub object-code : (N : Net) (ks : List ℕ) (a : ℕ) (os : List ℕ) → (first (object_tests N ks a os) ≤ 27) × ((first (object_tests N ks a os) ≡ 0 → ⊥) → 25 ≤ first (object_tests N ks a os))
+object-code N ks a os = go (any (λ (o : ℕ). leb (length ks) o) os) (any (λ (k : ℕ). not (takes N a k)) (object_kinds ks os)) (twice (object_kinds ks os))
+  where
+    code : Bool → Bool → Bool → ℕ
+    code x y z = first ((x, 25) ∷ (y, 26) ∷ (z, 27) ∷ [])
+
+    go : (x y z : Bool) → (code x y z ≤ 27) × ((code x y z ≡ 0 → ⊥) → 25 ≤ code x y z)
+    go true y z = (omega arith, λ n. omega arith)
+    go false true z = (omega arith, λ n. omega arith)
+    go false false true = (omega arith, λ n. omega arith)
+    go false false false = (omega arith, λ n. absurd (n refl))
 
 -- the counts that are read, and the register
 module _ (e : Asked) (b : List ℕ) (L : Laid e b) where
@@ -48,6 +62,9 @@ module _ (e : Asked) (b : List ℕ) (L : Laid e b) where
 
   pub numbers : (length (words_of b) ≡ l.pairs + l.places * l.places) × (length (words_of b) ≤ max_words)
   numbers = (words_size w b l L.ready L.lay, words-few w b l L.ready L.lay)
+
+  pub count-in : (i : ℕ) → i < counts_size N → l.counts + i < length (words_of b)
+  count-in i h = omega (arith, numbers, laid.pairs-at)
 
   pub closed_read : get_or (words_of b) (closed_at l) 0 ≡ d.closed
   closed_read = closed-read w b l L.ready L.lay

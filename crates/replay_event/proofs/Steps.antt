@@ -52,9 +52,18 @@ module _ (e : Asked) (b : List ℕ) (M : Moving e b) where
   abbrev os : List ℕ
   os = words_of e.objs.now
 
+  pub kinds-length : length (object_kinds ks os) ≡ length os
+  kinds-length = length-map os (λ (o : ℕ). get_or ks o 0)
+
+  pub object-in : (i : ℕ) → i < length os → get_or os i 0 < l.objects
+  object-in i h = omega (arith, All-at (λ (o : ℕ). o < length ks) 0 os M.known i h, (laid e b M.counted.laid).kinds-size)
+
   -- the jumps of the activity are one of the counts
   pub own_in : (jumps_at l e.act < l.pairs) × (jumps_at l e.act ≤ max_words)
   own_in = omega (arith, M.counted.act-in, (laid e b M.counted.laid).pairs-at, numbers e b M.counted.laid)
+
+  pub pairs_few : l.pairs ≤ max_words
+  pairs_few = omega (arith, numbers e b M.counted.laid)
 
   pub step_start : Stepping e b 0 0 (words_of b)
   step_start = record {
@@ -76,28 +85,25 @@ module _ (e : Asked) (b : List ℕ) (M : Moving e b) where
       pub step_in : i < length os
       step_in = omega (arith, length-words e.objs.now)
 
-      object-in : o < l.objects
-      object-in = omega (arith, All-at (λ (o : ℕ). o < length ks) 0 os M.known i step_in, (laid e b M.counted.laid).kinds-size)
-
-      kind-is : k ≡ get_or ks o 0
-      kind-is = register-kind _ _ _ _ _ _ _ _ T.sum _ T.same o object-in
+      pub kind-is : k ≡ get_or ks o 0
+      kind-is = register-kind _ _ _ _ _ _ _ _ T.sum _ T.same o (object-in i step_in)
 
       kind-in : k < N.kinds
-      kind-in = rw kind-is (kind-of-in _ _ _ M.counted.laid.ready M.counted.laid.lay o object-in)
+      kind-in = rw kind-is (kind-of-in _ _ _ M.counted.laid.ready M.counted.laid.lay o (object-in i step_in))
 
       kind-taken : takes N e.act k ≡ true
       kind-taken =
           let at : get_or (object_kinds ks os) i 0 ≡ k = map_at (λ (o : ℕ). get_or ks o 0) 0 0 os i step_in ∙ sym kind-is in
-          subst (λ (k : ℕ). takes N e.act k ≡ true) at (All-at (λ (k : ℕ). takes N e.act k ≡ true) 0 (object_kinds ks os) M.taken i (omega (arith, length-map os (λ (o : ℕ). get_or ks o 0), step_in)))
+          subst (λ (k : ℕ). takes N e.act k ≡ true) at (All-at (λ (k : ℕ). takes N e.act k ≡ true) 0 (object_kinds ks os) M.taken i (omega (arith, kinds-length, step_in)))
 
       arc-good : GoodArc N (input_of N e.act k, output_of N e.act k)
       arc-good = arc-has N.kind_of (GoodArc N) k (N.arcs e.act) ((ready-loaded _ b M.counted.laid.ready).arc-good e.act M.counted.act-in) kind-taken
 
-      inp-in : input_of N e.act k < l.places
+      pub inp-in : input_of N e.act k < l.places
       inp-in = omega (arith, arc-good.inp, (laid e b M.counted.laid).places-are)
 
       pub step_kind : kind_at N l o < length v
-      step_kind = register-in _ _ _ _ _ _ _ _ T.sum o object-in
+      step_kind = register-in _ _ _ _ _ _ _ _ T.sum o (object-in i step_in)
 
       pub step_taken : (e.act < N.acts) × (k < N.kinds) × (takes N e.act k ≡ true)
       step_taken = (M.counted.act-in, kind-in, kind-taken)
@@ -106,7 +112,7 @@ module _ (e : Asked) (b : List ℕ) (M : Moving e b) where
       step_out = omega (arith, arc-good.out, (laid e b M.counted.laid).places-are, (laid e b M.counted.laid).places-few)
 
       pub step_can : CanMove l o (input_of N e.act k) v
-      step_can = can-move _ _ _ _ _ _ _ _ T.sum o (input_of N e.act k) object-in inp-in (omega (arith, few_objects _ _ M.counted, step_in))
+      step_can = can-move _ _ _ _ _ _ _ _ T.sum o (input_of N e.act k) (object-in i step_in) inp-in (omega (arith, few_objects _ _ M.counted, step_in))
 
       pub step_turn : Stepping e b (i + 1) (s + jumps_to l o (input_of N e.act k) v) (go_words l o (input_of N e.act k) (output_of N e.act k) v)
       step_turn =
@@ -114,7 +120,7 @@ module _ (e : Asked) (b : List ℕ) (M : Moving e b) where
           let split : drop i os ≡ o ∷ rest = rw add-one (drop-cons os i 0 step_in) in
           let first : LegsLeft N t l (8001025 + i) (jumps_at l e.act) act_jumps ks (map (leg N ks e.act) (o ∷ rest)) (moved e b) s v = subst (λ (r : List ℕ). LegsLeft N t l (8001025 + i) (jumps_at l e.act) act_jumps ks (map (leg N ks e.act) r) (moved e b) s v) split T in
           subst (λ (q : ℕ). input_of N e.act q < l.places → output_of N e.act q < l.places → Stepping e b (i + 1) (s + jumps_to l o (input_of N e.act q) v) (go_words l o (input_of N e.act q) (output_of N e.act q) v)) (sym kind-is)
-          (λ hi ho. legs-turn N t l (jumps_at l e.act) e.act act_jumps (act-counter N t l e.act M.counted.act-in) (8001025 + i) ks (moved e b) s v (8001025 + (i + 1)) (leg N ks e.act o) (map (leg N ks e.act) rest) first refl object-in hi ho (omega arith))
+          (λ hi ho. legs-turn N t l (jumps_at l e.act) e.act act_jumps (act-counter N t l e.act M.counted.act-in) (8001025 + i) ks (moved e b) s v (8001025 + (i + 1)) (leg N ks e.act o) (map (leg N ks e.act) rest) first refl (object-in i step_in) hi ho (omega arith))
           inp-in step_out.0
 
     pub step_add : i ≤ length e.objs.now / 4 → CanAdd (jumps_at l e.act) s v

@@ -5,7 +5,7 @@ use mathlib.Core.Path.{◌≡◌, refl, sym}
 use mathlib.Core.List.{List, [], ◌∷◌}
 use native.Mathlib.Omega.{arith}
 use lib.Dec.{eqb}
-use lib.ListN.{length, get_or}
+use lib.ListN.{length, get_or, take}
 use borrow.Author.Tests.{eq-eqb, ne_eqb}
 use Rattle.words.specs.Lists.{pick, has, twice}
 use Rattle.words.proofs.Lists.{All-of, any_false}
@@ -39,3 +39,7 @@ twice-not (x ∷ xs) f =
 -- fewer than two have no pair
 pub few_apart : (xs : List ℕ) → length xs < 2 → false ≡ twice xs
 few_apart xs h = sym (twice-not xs (λ a k b l e. omega arith))
+
+-- what was found among the first m, where these are the first n
+pub among : (l : List ℕ) (n m : ℕ) (r : Bool) → n ≡ m → r ≡ twice (take m l) → r ≡ twice (take n l)
+among l n m r e h = rw e h

@@ -130,6 +130,13 @@ module _ (t table objects : List ℕ) (S : Startable t table objects) (ok : regi
         table-few = table-few;
       })
 
+  -- and how many numbers
+  pub words_size : (out : List ℕ) → length out ≡ length (start_record table (kinds_in (net_of table) objects))
+      → length (words_of out) ≡ head_words + length table / 4 + length (kinds_in (net_of table) objects) + length (kinds_in (net_of table) objects) + counts_size (net_in t) + (net_in t).places * (net_in t).places
+  words_size out e =
+      let F = fits (fresh_layout (net_in t) (length table / 4) objects) refl in
+      omega (arith, length-words out, e, F.end-at, F.counts-at, F.positions-at, F.register-at, F.objects-are)
+
   -- the numbers that starting stores, as one list
   module _ (w : List ℕ) (b c p : ℕ) (bs : b ≡ position_bytes (length (kinds_in (net_of table) objects))) (cs : c ≡ 4 * counts_size (net_in t)) (ps : p ≡ 4 * ((net_in t).places * (net_in t).places))
       (l : Layout) (f : Fits l) (size : 4 * length w ≡ length (start_record table (kinds_in (net_of table) objects))) where

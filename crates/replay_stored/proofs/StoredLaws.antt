@@ -40,12 +40,12 @@ module _ (w b : List ℕ) (R : Ready w b) where
           is = ap (λ (v : List ℕ). get_or v i 0) (ready_words w b R) ∙ q;
         }
 
-    has-kind : (o : ℕ) → o < length d.kinds → At b (kind_at N l o) (get_or d.kinds o 0)
+    pub has-kind : (o : ℕ) → o < length d.kinds → At b (kind_at N l o) (get_or d.kinds o 0)
     has-kind o h =
         let o-in : o < l.objects = omega (arith, placed.kinds-size) in
         at (kind_at N l o) (get_or d.kinds o 0) (omega (arith, placed.positions-at, placed.counts-at, placed.pairs-at)) (get-kind N (table_in b) l d placed o o-in)
 
-    has-pair : (x y : ℕ) → x < N.places → y < N.places → At b (pair_at l x y) (stored_pair N d x y)
+    pub has-pair : (x y : ℕ) → x < N.places → y < N.places → At b (pair_at l x y) (stored_pair N d x y)
     has-pair x y hx hy =
         let p : l.places ≡ N.places = placed.places-are in
         let x-in : x < l.places = omega arith in

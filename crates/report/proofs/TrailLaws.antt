@@ -71,7 +71,7 @@ module _ (b : List ℕ) where
         (sym code ∙ ap act_read_code s, ap (λ (k : ActCounts). a ∷ k.fired ∷ k.moved ∷ k.jumps ∷ []) (some_held (leb (net_at b).acts a) _ k (sym value ∙ s)))
 
   -- of a pair of places
-  pair-stored : (x y n : ℕ) → pair_read b x y ≡ Some n → n ≡ stored_pair (net_at b) (state_at b) x y
+  pub pair-stored : (x y n : ℕ) → pair_read b x y ≡ Some n → n ≡ stored_pair (net_at b) (state_at b) x y
   unfolding pair_read
   pair-stored x y n e = held (leb (net_at b).places x) e
     where

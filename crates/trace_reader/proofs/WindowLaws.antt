@@ -128,6 +128,11 @@ module _ (N : Net) (L : Loaded N) (ks : List ℕ) (accepted : ℕ) (w b : List �
 pub window-enough : (N : Net) → Loaded N → WindowEnough N
 window-enough = read_same
 
+-- a position past the body's end
+pub past_end : (N : Net) (ks : List ℕ) (accepted : ℕ) (b : List ℕ) (from body at : ℕ) → body < at → Err 73 ≡ read_from N ks accepted b from body at
+unfolding read_from
+past_end N ks accepted b from body at h = rw (ne_eqb at body (λ e. omega arith), lt-ltb body at h) refl
+
 -- the window of a file from byte `start` on
 pub window_is : (f : List ℕ) (start a b : ℕ) → a ≡ min start (length f) → b ≡ min (length f - a) 40 → take b (take (length f - a) (drop a f)) ≡ take 40 (drop start f)
 window_is f start a b p q =

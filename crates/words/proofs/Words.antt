@@ -1,17 +1,21 @@
 -- Laws of `word`, `words_of`, `bytes_of` and `Put`. Assumes nothing.
 use Prim.Native.Nat.{ℕ, zero, suc, ◌+◌, ◌-◌, ◌*◌, ◌/◌, ◌%◌, ◌≤◌, ◌<◌, ◌^◌}
 use native.Mathlib.Omega.{arith}
+use native.Mathlib.Decide.{ℕ_discrete}
 use native.Mathlib.Nat.{le_of_suc-le-suc, not-suc-le-zero, add-zero}
-use mathlib.Core.Path.{◌≡◌, refl, sym, ap, ap₂, ◌∙◌}
+use mathlib.Core.Path.{◌≡◌, refl, sym, ap, ap₂, subst, ◌∙◌}
+use mathlib.Core.Bool.{true}
 use mathlib.Core.List.{List, [], ◌∷◌, ◌++◌, append-nil, append_assoc}
+use lib.Dec.{eqb}
 use lib.ListN.{length, get_or, set, take, drop, length-drop}
 use lib.Seq.{sets, sets-eq, drop-drop, get_or-drop, get_or-set_same, get_or-set_other}
-use Rattle.words.specs.Lists.{All}
-use borrow.Author.Tests.{eq-eqb, ne_eqb}
+use Rattle.words.specs.Lists.{pick, All}
+use Rattle.words.proofs.Lists.{clash}
+use borrow.Author.Tests.{eqb-true, eq-eqb, ne_eqb}
 use borrow.Rule.Slice.PartMut.{put_mid}
 use Rattle.std.specs.Prelude.{Some, None}
 use Rattle.std.proofs.lemmas.Nat.{from_le_bytes-to_le_bytes_4}
-use Rattle.words.specs.Words.{joined, word, words_at, words_of, bytes_of, bodies_from}
+use Rattle.words.specs.Words.{joined, word, words_at, words_of, bytes_of, bodies_from, ends_at}
 use Rattle.words.specs.Put.{Put}
 
 -- a number below 2 ^ 32 by its four digits to the base 256
@@ -197,3 +201,22 @@ module _ (s : List ℕ) (n i end : ℕ) where
   pub bodies-end : n ≤ i → Some end ≡ bodies_from s (8 * i) end (n - i)
   unfolding bodies_from
   bodies-end h = let z : n - i ≡ 0 = omega arith in rw z
+
+-- where the layout test holds, no body passes the file's end
+pub body-within : (b : List ℕ) (e n i at : ℕ) → ends_at e (bodies_from b i at n) ≡ true → (at ≤ e) × ((j : ℕ) → j < n → word b (i + 8 * j) + word b (i + 8 * j + 4) ≤ e)
+unfolding bodies_from
+body-within b e zero i at h = (omega (arith, eqb-true at e h), λ j l. absurd (omega arith))
+body-within b e (suc n) i at h = go (ℕ_discrete (word b i) at) (body-within b e n (i + 8) (at + word b (i + 4))) h
+  where
+    go : Dec (word b i ≡ at)
+        → (ends_at e (bodies_from b (i + 8) (at + word b (i + 4)) n) ≡ true → (at + word b (i + 4) ≤ e) × ((j : ℕ) → j < n → word b (i + 8 + 8 * j) + word b (i + 8 + 8 * j + 4) ≤ e))
+        → ends_at e (pick (eqb (word b i) at) (bodies_from b (i + 8) (at + word b (i + 4)) n) None) ≡ true
+        → (at ≤ e) × ((j : ℕ) → j < suc n → word b (i + 8 * j) + word b (i + 8 * j + 4) ≤ e)
+    go (no m) r h = clash (sym (rw (ne_eqb (word b i) at m) at h))
+    go (yes q) r h =
+        let s = r (rw (eq-eqb (word b i) at q) at h) in
+        (omega (arith, s.0), λ j l. each j l s.0 s.1)
+      where
+        each : (j : ℕ) → j < suc n → at + word b (i + 4) ≤ e → ((j : ℕ) → j < n → word b (i + 8 + 8 * j) + word b (i + 8 + 8 * j + 4) ≤ e) → word b (i + 8 * j) + word b (i + 8 * j + 4) ≤ e
+        each zero l f g = subst (λ (k : ℕ). word b k + word b (k + 4) ≤ e) (sym (add-zero i)) (omega (arith, f, q))
+        each (suc j) l f g = subst (λ (k : ℕ). word b k + word b (k + 4) ≤ e) {x = i + 8 + 8 * j} (omega arith) (g j (omega arith))
