@@ -1,6 +1,7 @@
 #!/usr/bin/env bash
 # The example of a client in C: built against libclient.a and include/conform.h, it prints T4's sheet. The header serves C++ too.
-# The record in docs/FORMATS.md is the one that the library writes, and places and activities are counted as the header says.
+# The record in docs/FORMATS.md is the one that the library writes, and places and activities are counted as the header says. The
+# archive asks nothing of outside but memcpy and memset, which a caller without the C library can bring.
 set -euo pipefail
 cd "$(dirname "$0")/.."
 work=$(mktemp -d)
@@ -20,6 +21,9 @@ if command -v g++ >/dev/null; then
     g++ -std=c++17 -Wall -Wextra -Werror -fsyntax-only -x c++ include/conform.h
 fi
 echo "the sheet of T4"
+asked=$(nm -u target/staticlib/libclient.a | sed -n 's/^ *U //p' | sort -u)
+[ "$asked" = "$(printf 'memcpy\nmemset')" ] || { echo "libclient.a asks of outside:" "$asked"; exit 1; }
+echo "nothing asked of outside but memcpy and memset"
 build tests/record.c "$work/record"
 "$work/record" examples/T4/route.tab examples/T4/trail 4 >"$work/written"
 python3 tests/dump.py docs/FORMATS.md record-T4 | cmp - "$work/written"
