@@ -70,8 +70,8 @@ pub fn check(rec: &[u8], t: &mut NetWords) -> Result<(), RestoreError>
     check_table(rec, t)
 }
 
-// The bytes of `from` become the first bytes of `to`. A loop, since `copy_from_slice` calls `memmove` here, and the archive is to ask
-// of C only what it has always asked.
+// The bytes of `from` become the first bytes of `to`. A loop, since `copy_from_slice` calls `memmove` here, and the archive for C asks
+// nothing of outside but `memcpy` and `memset`.
 fn copy_front(from: &[u8], to: &mut [u8])
     requires { length from.now ≤ length to.old }
     ensures { to.new ≡ over from.now to.old }

@@ -96,7 +96,8 @@ fn put_contents(
     put_pair(out, 8, tail + counts, pairs);
 }
 
-// The numbers of s, from number `base` on. That s has bytes is said too: the check does not see it of a slice in a lent struct.
+// The numbers of s, from number `base` on. That s has bytes is said too: the check does not see it of a slice in a lent struct. A loop,
+// for the reason that stands at `checkpoint_restore::copy_front`.
 fn copy_words(s: &[u8], out: &mut [u8], base: usize)
     requires { base + length (words_of s.now) ≤ length (words_of out.old) }
     ensures after { words_of out.new ≡ sets (words_of out.old) base (words_of s.now) }
