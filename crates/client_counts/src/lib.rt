@@ -35,29 +35,30 @@ fn write_row(row: &[u32], out: &mut [u8]) -> Result<usize, LineError>
 pub fn trail_numbers(trail: &Trail, out: &mut [u8]) -> Result<usize, LineError>
     ensures { Writes [] (trail_numbers trail.now.rec.now) out.old result out.new }
 {
-    write_row(&trail_row(trail), out)
+    let [objects, events, jumps, transfers] = trail_row(trail);
+    write_row(&[objects, events, jumps, transfers], out)
 }
 
 // The number of place q, TAKEN, IN, OUT.
 pub fn place_numbers(trail: &Trail, q: u32, out: &mut [u8]) -> Result<usize, LineError>
     ensures { Writes (place_tests trail.now.rec.now q) (place_numbers trail.now.rec.now q) out.old result out.new }
 {
-    let row = place_row(trail, q)?;
-    write_row(&row, out)
+    let [place, consumed, jumps_in, jumps_out] = place_row(trail, q)?;
+    write_row(&[place, consumed, jumps_in, jumps_out], out)
 }
 
 // The number of activity a, FIRED, MOVED, JUMPS.
 pub fn act_numbers(trail: &Trail, a: u32, out: &mut [u8]) -> Result<usize, LineError>
     ensures { Writes (act_tests trail.now.rec.now a) (act_numbers trail.now.rec.now a) out.old result out.new }
 {
-    let row = act_row(trail, a)?;
-    write_row(&row, out)
+    let [act, fired, moved, jumps] = act_row(trail, a)?;
+    write_row(&[act, fired, moved, jumps], out)
 }
 
 // The two places of a pair and its jump count.
 pub fn pair_numbers(trail: &Trail, from: u32, to: u32, out: &mut [u8]) -> Result<usize, LineError>
     ensures { Writes (pair_tests trail.now.rec.now from to) (pair_numbers trail.now.rec.now from to) out.old result out.new }
 {
-    let row = pair_row(trail, from, to)?;
-    write_row(&row, out)
+    let [from, to, n] = pair_row(trail, from, to)?;
+    write_row(&[from, to, n], out)
 }

@@ -1,13 +1,16 @@
 -- An unknown number is refused, and else the numbers that were read are written. Assumes nothing.
+use Prim.Native.Nat.{ℕ}
+use mathlib.Core.List.{List, [], ◌∷◌}
 use native.Mathlib.Omega.{arith}
+use lib.ListN.{get_or}
 use Rattle.words.specs.Words.{bytes_of}
 use Rattle.client_counts.specs.Numbers.{act_numbers}
 use Rattle.report.proofs.TrailLaws.{line_refused, row_written}
 use Rattle.client_counts.proofs.act_numbers.Goals as goal
 
-pub returns-in_err-row : goal.returns-in_err-row
-returns-in_err-row c = line_refused _ _ _ _ _ c.from_residual.ensures.1 c.in_err-row.ensures
+pub returns-in_err-act : goal.returns-in_err-act
+returns-in_err-act c = line_refused _ _ _ _ _ c.from_residual.ensures.1 c.in_err-act.ensures
 
 pub returns : goal.returns
 unfolding act_numbers
-returns c = row_written bytes_of (omega arith, tt) c.in_ok-row.ensures c.write_row.ensures
+returns c = row_written (λ (xs : List ℕ). bytes_of (get_or xs 0 0 ∷ get_or xs 1 0 ∷ get_or xs 2 0 ∷ get_or xs 3 0 ∷ [])) (omega arith, tt) c.in_ok-act.ensures c.write_row.ensures
