@@ -229,3 +229,39 @@ module _ (w table objects lent : List ℕ) (S : Startable w table objects) where
 
       pub start-taken : (record_bytes : List ℕ) → size ≤ length lent → record_bytes ≡ start_record table (kinds_in (net_of table) objects) → Answers table objects lent 0 (record_bytes ++ drop size lent)
       start-taken r h q = rw (q, is-size) (taken table objects lent registered-start (omega (arith, is-size)))
+
+-- the same, one clause each
+module _ (w table objects lent : List ℕ) (S : Startable w table objects) where
+  pub refused_code : (e : RegisterError) → register_error_code e ≡ register_code (net_in w) (kinds_in (net_in w) objects) → register_error_code e ≡ start_code table (kinds_in (net_in w) objects) (length lent)
+  refused_code e h = (start-refused w table objects lent S e h).0
+
+  pub refused_bytes : (register_code (net_in w) (kinds_in (net_in w) objects) ≡ 0 → ⊥) → lent ≡ start_bytes table (kinds_in (net_in w) objects) lent
+  refused_bytes n = (register-refused table objects lent (register_code (net_in w) (kinds_in (net_in w) objects)) n (of_table w table objects lent S)).1
+
+  module _ (ok : 0 ≡ register_code (net_in w) (kinds_in (net_in w) objects)) where
+    pub known : register_code (net_of table) (kinds_in (net_in w) objects) ≡ 0
+    known = registered-start w table objects lent S ok
+
+    pub table_few : length table ≤ max_table
+    table_few = (bounded w table objects lent S ok).0
+
+    pub rows_few : Registered (net_in w) objects
+    rows_few = (bounded w table objects lent S ok).1
+
+    pub short_code : length lent < fresh_bytes (net_in w) (length table) objects → 61 ≡ start_code table (kinds_in (net_in w) objects) (length lent)
+    short_code l = (start-shorter w table objects lent S ok (fresh_bytes (net_in w) (length table) objects) refl l).0
+
+    pub short_bytes : length lent < fresh_bytes (net_in w) (length table) objects → lent ≡ start_bytes table (kinds_in (net_in w) objects) lent
+    short_bytes l = (start-shorter w table objects lent S ok (fresh_bytes (net_in w) (length table) objects) refl l).1
+
+    pub taken_code : fresh_bytes (net_in w) (length table) objects ≤ length lent → 0 ≡ start_code table (kinds_in (net_in w) objects) (length lent)
+    taken_code l = (start-taken w table objects lent S ok (fresh_bytes (net_in w) (length table) objects) refl (start_record table (kinds_in (net_of table) objects)) l refl).0
+
+    module _ (size : ℕ) (e : size ≡ fresh_bytes (net_in w) (length table) objects) where
+      pub exact : size ≤ length lent → length (take size lent) ≡ length (start_record table (kinds_in (net_in w) objects))
+      exact l = exact-room w table objects lent S ok size e l
+
+      pub taken_bytes : (r : List ℕ) → size ≤ length lent → r ≡ start_record table (kinds_in (net_in w) objects) → r ++ drop size lent ≡ start_bytes table (kinds_in (net_in w) objects) lent
+      taken_bytes r l q = (start-taken w table objects lent S ok size e r l q).1
+
+pub ruleset starts = (refused_code, refused_bytes, known, table_few, rows_few, short_code, short_bytes, exact, taken_code, taken_bytes)

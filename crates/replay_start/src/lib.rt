@@ -159,6 +159,7 @@ fn fill(bodies: &StartBodies, out: &mut [u8])
 }
 
 // Starts a trail: its record in front of the lent bytes. Where it is refused no byte changes.
+#[tactic(auto, using(crate::proofs::StartLaws::starts))]
 pub fn start(bodies: &StartBodies, rec: &mut [u8]) -> Result<(), StartError>
     ensures code { start_answer_code result ≡ start_code bodies.now.tabled.table.now (kinds_in (net_in bodies.now.tabled.net.words.now) bodies.now.register.now) (length rec.old) }
     ensures rec_after { rec.new ≡ start_bytes bodies.now.tabled.table.now (kinds_in (net_in bodies.now.tabled.net.words.now) bodies.now.register.now) rec.old }
