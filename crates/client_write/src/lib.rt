@@ -5,7 +5,8 @@
 
 ghost use Rattle.std.specs.Prelude.{◌≡◌, ◌≤◌, List, Bool, ℕ};
 ghost use Rattle.replay.specs.Ready.{Ready};
-ghost use Rattle.lines.specs.Answer.{size_of, Writes};
+ghost use Rattle.lines.specs.Answer.{line_answer_code, size_of, Writes};
+ghost use Rattle.client_answers.specs.Answers.{packed};
 ghost use Rattle.client_calls.specs.Writing.{write_answer, write_leaves};
 ghost use Rattle.client_write.specs.Puts.{PutsFew, PutsLine};
 
@@ -34,6 +35,14 @@ fn put_line<'a, F: FnOnce(&Trail, &mut [u8]) -> Result<usize, LineError>>(
     put(&trail, out)
 }
 
+// The answer of a line, or of its numbers: the refusal's number, or 0 and how many bytes were written.
+fn line_answer(line: Result<usize, LineError>) -> u64
+    requires { size_of line ≤ 113 }
+    ensures { result ≡ packed (line_answer_code line) (size_of line) }
+{
+    answer(line)
+}
+
 // Writes of any bytes that are lent as a trail what `put` writes of a trail: a line of its report, or a line's numbers.
 pub fn write<F: FnOnce(&Trail, &mut [u8]) -> Result<usize, LineError>>(
     trail: &[u8],
@@ -50,5 +59,5 @@ pub fn write<F: FnOnce(&Trail, &mut [u8]) -> Result<usize, LineError>>(
     if refused != 0 {
         return refused;
     }
-    answer(put_line(trail, &t, out, put))
+    line_answer(put_line(trail, &t, out, put))
 }

@@ -3,7 +3,7 @@
 
 #![tactic(auto)]
 
-ghost use Rattle.std.specs.Prelude.{◌≡◌, ℕ, ◌≤◌, ◌<◌, length, get_or};
+ghost use Rattle.std.specs.Prelude.{◌≡◌, ℕ, ◌≤◌, length, get_or};
 ghost use Rattle.words.specs.Lists.{any, pair_up, total};
 ghost use Rattle.net.specs.Table.{bad_count, bad_arc};
 ghost use Rattle.net.specs.Held.{net_in, counts_in, arcs_in};
@@ -18,12 +18,20 @@ pub fn bad_counts(w: SizedWords) -> bool
     w.counts().iter().any(|n| *n == 0 || 8 < *n)
 }
 
-// 6: how many arcs the activities claim, none of them over 8.
+// The sum of at most 64 numbers, which fits.
+fn sum(counts: &[u32]) -> usize
+    requires { length counts.now ≤ 64 }
+    ensures { result ≡ total (λ (n : ℕ). n) counts.now }
+{
+    counts.iter().map(|n| wide(*n)).sum()
+}
+
+// 6: how many arcs the activities claim. The proof looks into `counts_in`, as that of `net_places::bad_place` into `places_in`.
+#[tactic(auto, using(crate::proofs::SumLaws::few_counts), unfolding(net::specs::Held::counts_in))]
 pub fn sum_counts(w: SizedWords) -> usize
-    requires by_index { (i : ℕ) → i < length (counts_in w.words.now) → get_or (counts_in w.words.now) i 0 ≤ 8 }
     ensures { result ≡ total (λ (n : ℕ). n) (counts_in w.entry.words.now) }
 {
-    w.counts().iter().map(|n| wide(*n)).sum()
+    sum(w.counts())
 }
 
 // The arc from place p to place q breaks test 7.

@@ -31,12 +31,19 @@ pub fn load_fresh(s: &[u8], t: &mut NetWords) -> Result<(), LoadError>
     Ok(())
 }
 
+// All words of w, over those that are lent.
+fn copy_all(w: &NetWords, t: &mut NetWords)
+    ensures { t.new ≡ w.now }
+{
+    *t = *w;
+}
+
 // Loads a table file into lent words. Where it is refused the words stay as they are.
 pub fn load(s: &[u8], t: &mut NetWords) -> Result<(), LoadError>
     ensures { (load_answer_code result ≡ load_code s.now) × (t.new ≡ after_load s.now t.old) }
 {
     let mut w = [0u32; NET_WORDS];
     load_fresh(s, &mut w)?;
-    *t = w;
+    copy_all(&w, t);
     Ok(())
 }

@@ -11,12 +11,19 @@ ghost use Rattle.net.specs.Held.{net_in, places_in};
 use net::tested::SizedWords;
 use words::wide;
 
-// 4: a place of unknown kind.
+// One of the places is of none of so many kinds.
+fn unknown_kind(kinds: usize, places: &[u32]) -> bool
+    ensures { result ≡ any (λ (k : ℕ). leb kinds k) places.now }
+{
+    places.iter().any(|kind| kinds <= wide(*kind))
+}
+
+// 4: a place of unknown kind. The proof looks into `places_in`, so that any slice of the words is judged by what is in it.
+#[tactic(auto, unfolding(net::specs::Held::places_in))]
 pub fn bad_place(w: SizedWords) -> bool
     ensures { result ≡ any (λ (k : ℕ). leb (net_in w.entry.words.now).kinds k) (places_in w.entry.words.now) }
 {
-    let kinds = w.kinds();
-    w.places().iter().any(|kind| kinds <= wide(*kind))
+    unknown_kind(w.kinds(), w.places())
 }
 
 // The source and the sink of kind k break test 5.

@@ -76,6 +76,7 @@ fn read_events<R: Read>(
 }
 
 // The bytes of a register that are there, at most as many as are claimed.
+#[tactic(auto, using(crate::proofs::Opening::registers))]
 fn open_register<'a, R: Read>(
     input: &mut R,
     claimed: &'a Claimed,
@@ -128,6 +129,7 @@ fn open_bodies<R: Read>(input: &mut R, claimed: &Claimed, rec: &mut [u8]) -> Res
 }
 
 // A trail file, by its first bytes, for a table that is loaded.
+#[tactic(auto, using(crate::proofs::Opening::heads))]
 fn open_trail<R: Read>(
     input: &mut R,
     tabled: &TabledNet,

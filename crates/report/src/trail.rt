@@ -61,6 +61,7 @@ pub fn place_line(trail: &Trail, q: u32, out: &mut [u8]) -> Result<usize, LineEr
 }
 
 // The line of activity a.
+#[tactic(auto, unfolding(lines::specs::Answer::line_code, crate::specs::TrailLines::act_line_at))]
 pub fn act_line(trail: &Trail, a: u32, out: &mut [u8]) -> Result<usize, LineError>
     ensures { Writes (act_tests trail.now.rec.now a) (act_line_at trail.now.rec.now a) out.old result out.new }
 {

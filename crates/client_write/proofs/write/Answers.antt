@@ -10,8 +10,8 @@ returns-then-refused-ne0-clause-out_after g c tests line P = (write-stops c.args
 
 pub returns-clause-answer : goal.returns-clause-answer
 returns-clause-answer g c tests line P =
-    (write_goes c.args.trail.now _ _ c.checked-refused.ensures tests line c.args.out.now c.if-refused-ne0.false _ _ _ (c.put_line.ensures.writes tests line P) c.answer.ensures).0
+    (write_goes c.args.trail.now _ _ c.checked-refused.ensures tests line c.args.out.now c.if-refused-ne0.false _ _ _ (c.put_line.ensures.writes tests line P) c.line_answer.ensures).0
 
 pub returns-clause-out_after : goal.returns-clause-out_after
 returns-clause-out_after g c tests line P =
-    (write_goes c.args.trail.now _ _ c.checked-refused.ensures tests line c.args.out.now c.if-refused-ne0.false _ _ _ (c.put_line.ensures.writes tests line P) c.answer.ensures).1
+    (write_goes c.args.trail.now _ _ c.checked-refused.ensures tests line c.args.out.now c.if-refused-ne0.false _ _ _ (c.put_line.ensures.writes tests line P) c.line_answer.ensures).1

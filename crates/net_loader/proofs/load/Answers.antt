@@ -8,4 +8,4 @@ pub returns-in_err-load_fresh : goal.returns-in_err-load_fresh
 returns-in_err-load_fresh c = (passed_on _ _ _ c.from_residual.ensures.1 ∙ c.in_err-load_fresh.ensures.0, refused_words _ _ _ c.in_err-load_fresh.ensures.0)
 
 pub returns : goal.returns
-returns c = (c.in_ok-load_fresh.ensures.0, taken_words _ _ _ c.in_ok-load_fresh.ensures.0 c.in_ok-load_fresh.ensures.1)
+returns c = (c.in_ok-load_fresh.ensures.0, c.copy_all.ensures ∙ taken_words _ _ _ c.in_ok-load_fresh.ensures.0 c.in_ok-load_fresh.ensures.1)

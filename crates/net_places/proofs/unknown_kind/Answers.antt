@@ -7,12 +7,10 @@ use borrow.Author.Tests.{tests}
 use Rattle.std.proofs.Common.{rules}
 use Rattle.std.proofs.lemmas.Iterator.{YieldsList-from_slice}
 use Rattle.std.proofs.lemmas.Iterator.Search.{any_from_yields_List}
-use Rattle.net.specs.Held.{net_in}
 use Rattle.words.proofs.Chains.{any-is}
-use Rattle.net_places.proofs.bad_place.Goals as goal
+use Rattle.net_places.proofs.unknown_kind.Goals as goal
 
 pub returns : goal.returns
 returns c =
-    let w : List ℕ = c.args.w.words.now in
-    let xs : List ℕ = c.places.result.now in
-    rw (← c.places.ensures) (any_from_yields_List (leb (net_in w).kinds) _ _ _ c.any.ensures.ran (YieldsList-from_slice xs cc) (λ x b q k. search (rules, tests)) ∙ any-is (leb (net_in w).kinds) xs)
+    let xs : List ℕ = c.args.places.now in
+    any_from_yields_List (leb c.args.kinds) _ _ _ c.any.ensures.ran (YieldsList-from_slice xs cc) (λ x b q k. search (rules, tests)) ∙ any-is (leb c.args.kinds) xs
