@@ -14,12 +14,23 @@ use Rattle.replay_start.specs.Startable.{Startable}
 use Rattle.replay_start.proofs.Begun.{ready-start, state-start, start-front, start_fits}
 use Rattle.replay_start.proofs.StartLaws.{record-size, taken}
 use Rattle.replay_layout.specs.Fresh.{fresh_bytes}
-use Rattle.trace_header.specs.Opening.{open_code}
+use Rattle.std.specs.Prelude.{Option, None, Result, Err}
+use Rattle.std.specs.Option.{ok_or}
+use Rattle.trace_header.specs.declared.Bodies.{Bodies}
+use Rattle.trace_header.specs.Opening.{contents_of, open_code}
 use Rattle.trace_header.proofs.OpenLaws.{not-refused, open_long, whole-rows}
 use Rattle.program_text.proofs.Texts.{contents-refused, register-refused, register-taken}
 use Rattle.program_step.specs.Follows.{Follows}
 use Rattle.replay.specs.Limits.{max_record}
 use Rattle.replay.specs.Register.{row_bytes, max_register, kinds_in}
+
+-- what the contents say, by the table's net
+pub contents-of : (t table head : List ℕ) → Tabled t table → (v : Option Bodies) → v ≡ contents_of (net_in t) head → contents_of (net_of table) head ≡ v
+contents-of t table head T v e = ap (λ (N : Net). contents_of N head) (sym T.net) ∙ sym e
+
+-- what `ok_or` refuses with
+pub refused-with : {E : Type 0} (o : Option Bodies) (e u : E) → o ≡ None → ◌≡◌ {A = Result Bodies E} (Err e) (ok_or o u) → e ≡ u
+refused-with o e u n h = cc
 
 -- a register that is not refused, of which so many bytes are claimed as are there
 module _ (t table register : List ℕ) (claimed : ℕ) (T : Tabled t table) (rows : claimed % row_bytes (net_of table) ≡ 0) (few : length register ≤ claimed) (z : 0 ≡ open_code (net_in t) claimed (length register) (kinds_in (net_in t) register)) where
